@@ -1,0 +1,6 @@
+-- The alternating digital tree over a pool of words: its walks, and the causes of fault 9.
+pub mod Node
+pub mod Search
+pub mod Insert
+pub mod Remove
+pub mod Links

@@ -1,0 +1,76 @@
+-- Fault 9 as document 01 says it: the links that a walk goes through, as one list, each with the level that it leads to, counted
+-- up from 0 at the root; taken from the words with no stopping and no counting. 9 comes exactly if one of them is above C or leads
+-- below the last level, or the cells met are more than C. proofs/ joins this with the walks that stop.
+--   Link                       its value, and the level of the cell that it leads to
+--   brokenBy c met links       a walk through these links meets a cause of 9; `met` cells were met before the first of them
+--   searchLinks w q            the search's links, in its order
+--   wayLinks w p               grant's way down of the point p
+--   removalLinks w k l         the removal walk from the cell k at level l, which is met before them
+--   isHit w q link             the link leads to a cell whose point lies in the range
+--   hitsAmong w q links        the cells of the search's links that are hits, in order
+-- Every list of links is finite by the levels: n counts those left. Assumes nothing: these are definitions.
+use Prim.Native.Nat.{ℕ, zero, suc, _+_, _-_}
+use mathlib.Core.Bool.{Bool, cond, _||_}
+use mathlib.Core.List.{List, [], _∷_, _++_, map}
+use lib.Dec.{ltb, eqb}
+use lib.ListN.{length, getD}
+use Rattle.lists.specs.Tests.{keep, any}
+use Rattle.geometry.specs.declared.Side.the-variants.{Left, Right}
+use Rattle.geometry.specs.Axis.{axisOf}
+use Rattle.geometry.specs.Levels.{levels}
+use Rattle.geometry.specs.Region.{Region, rootRegion, sideOf, half, meets}
+use Rattle.geometry.specs.Point.{inside}
+use Rattle.pool.specs.Layout.{rootPlace}
+use Rattle.adt.specs.Node.{linkPlace, pointAt}
+use Rattle.adt.specs.Remove.{nextLink}
+
+pub record Link : Type 0 where
+  pub level : ℕ
+  pub to : ℕ
+
+unfoldable pub brokenBy : ℕ → ℕ → List Link → Bool
+brokenBy c met links = any (λ link. ltb c (link .to) || ltb levels (link .level)) links || ltb c (met + length links)
+
+module _ (w : List ℕ) where
+  -- this link, and those behind it; no region is left to test below the last level, so each link there that is not 0 is met
+  unfoldable pub searchFrom : Region → ℕ → ℕ → ℕ → Region → List Link
+  searchFrom q zero l at g = cond (eqb (getD w at 0) 0) [] (record { level = l; to = getD w at 0 } ∷ [])
+  searchFrom q (suc n) l at g =
+      let k = getD w at 0 in
+      let a = axisOf l in
+      let onward : List Link = record { level = l; to = k } ∷ searchFrom q n (suc l) (linkPlace k Left) (half Left g a) ++ searchFrom q n (suc l) (linkPlace k Right) (half Right g a) in
+      cond (eqb k 0) [] (cond (meets g q) onward [])
+
+  -- a grant that would have to go below the last level meets that cause, whatever link stands there
+  unfoldable pub wayFrom : List ℕ → ℕ → ℕ → ℕ → Region → List Link
+  wayFrom p zero l at g = record { level = l; to = getD w at 0 } ∷ []
+  wayFrom p (suc n) l at g =
+      let k = getD w at 0 in
+      let a = axisOf l in
+      let s = sideOf g a (getD p a 0) in
+      let onward : List Link = record { level = l; to = k } ∷ wayFrom p n (suc l) (linkPlace k s) (half s g a) in
+      cond (eqb k 0) [] onward
+
+  unfoldable pub removalFrom : ℕ → ℕ → ℕ → List Link
+  removalFrom zero l k =
+      let next = getD w (nextLink w k) 0 in
+      cond (eqb next 0) [] (record { level = suc l; to = next } ∷ [])
+  removalFrom (suc n) l k =
+      let next = getD w (nextLink w k) 0 in
+      let onward : List Link = record { level = suc l; to = next } ∷ removalFrom n (suc l) next in
+      cond (eqb next 0) [] onward
+
+unfoldable pub searchLinks : List ℕ → Region → List Link
+searchLinks w q = searchFrom w q (suc levels) 0 rootPlace rootRegion
+
+unfoldable pub wayLinks : List ℕ → List ℕ → List Link
+wayLinks w p = wayFrom w p (suc levels) 0 rootPlace rootRegion
+
+unfoldable pub removalLinks : List ℕ → ℕ → ℕ → List Link
+removalLinks w k l = removalFrom w (levels - l) l k
+
+abbrev pub isHit : List ℕ → Region → Link → Bool
+isHit w q link = inside q (pointAt w (link .to))
+
+unfoldable pub hitsAmong : List ℕ → Region → List Link → List ℕ
+hitsAmong w q links = map (λ link. link .to) (keep (isHit w q) links)

@@ -1,0 +1,2 @@
+-- The check of a block.
+pub mod Checksum

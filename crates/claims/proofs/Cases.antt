@@ -1,0 +1,32 @@
+-- A table of cases: what a definition gives beside what it must give, as numbers. `passed` computes over the whole table.
+-- Assumes nothing.
+use Prim.Native.Nat.{ℕ}
+use mathlib.Core.Bool.{Bool, cond}
+use mathlib.Core.List.{List, [], _∷_}
+use Rattle.lists.specs.Tests.{every, sameNumbers}
+use Rattle.geometry.specs.declared.Side.{Side}
+use Rattle.geometry.specs.declared.Side.the-variants.{Left, Right}
+use Rattle.model.specs.Answer.{Answer, accepted, refused}
+
+pub record Case : Type 0 where
+  pub given : List ℕ
+  pub wanted : List ℕ
+
+abbrev pub passed : List Case → Bool
+passed cases = every (λ c. sameNumbers (c .given) (c .wanted)) cases
+
+-- a single number, a test, a side, an answer
+abbrev pub one : ℕ → List ℕ
+one n = n ∷ []
+
+abbrev pub test : Bool → List ℕ
+test b = cond b (one 1) (one 0)
+
+abbrev pub side : Side → List ℕ
+side Left = one 0
+side Right = one 1
+
+-- 0 and the values, or the fault and its values
+abbrev pub told : Answer → List ℕ
+told (accepted values) = 0 ∷ values
+told (refused number values) = number ∷ values

@@ -1,0 +1,189 @@
+-- The definitions tried on numbers, where a slip would hide: one table under one theorem. Assumes nothing.
+--   document 01's "Misprints and slips to catch"; a pool of two cells, searched; fault 9 on cyclic links; a history of calls on words
+--   beside the same on the book, with an inner cell revoked; a file of two grants, byte for byte, and its verdict
+use Prim.Native.Nat.{ℕ, _+_, _-_, _*_, _%_, _/_}
+use mathlib.Core.Bool.{Bool, true, false, cond}
+use mathlib.Core.List.{List, [], _∷_, _++_, map, flatMap}
+use lib.Dec.{T}
+use lib.ListN.{length, take, drop, getD, set, replicate}
+use Rattle.lists.specs.Tests.{keep, every, any, each, sameNumbers}
+use Rattle.lists.specs.Ranges.{countFrom}
+use Rattle.lists.specs.Overwrite.{overwrite}
+use Rattle.lists.specs.Sort.{insertBy, sortBy}
+use Rattle.model.specs.declared.Box.{Box}
+use Rattle.model.specs.declared.Grant.{Grant}
+use Rattle.model.specs.declared.Kind.the-variants.{Bars, Opens}
+use Rattle.model.specs.Interval.{Interval}
+use Rattle.model.specs.Overlap.{overlaps}
+use Rattle.model.specs.Grant.{grantValues, sameGrant, touches}
+use Rattle.model.specs.Answer.{Answer}
+use Rattle.model.specs.Refusal.{Step, firstFault, refusing}
+use Rattle.model.specs.Arguments.{reversedBox}
+use Rattle.model.specs.Decide.{outranks, decidingOf, decideAmong}
+use Rattle.model.specs.Fault.{faultNumber, faultValues}
+use Rattle.model.specs.Call.{Request, Call, grant, revoke, list, decide, count}
+use Rattle.model.specs.Book.{Book, emptyBook, bookGrant, bookRevoke, bookList, bookDecide, bookCount, bookStep}
+use Rattle.geometry.specs.declared.Side.the-variants as side
+use Rattle.geometry.specs.Region.{low, high, rootRegion, half, meets}
+use Rattle.geometry.specs.Point.{pointOf, inside}
+use Rattle.geometry.specs.SearchRange.{rangeOfBox, rangeOfDoors, rangeOfNumber, rangeOfAll}
+use Rattle.pool.specs.Layout.{place, fieldOf}
+use Rattle.pool.specs.Capacity.{capacityOf, wrongLength, wrongPool}
+use Rattle.pool.specs.Cell.{grantAt, cellOf, withCell}
+use Rattle.pool.specs.Fresh.{freeCells, freshPool}
+use Rattle.adt.specs.Search.{Search, broken, going, meet, visitBy, enter, search}
+use Rattle.adt.specs.Insert.{wayDown, descend, freeBroken, inserted}
+use Rattle.adt.specs.Remove.{follow, terminalFrom, replaced, unlinked, freed, removed}
+use Rattle.adt.specs.Links.{brokenBy, searchFrom, wayFrom, removalFrom, searchLinks, wayLinks, removalLinks, hitsAmong}
+use Rattle.checksum.specs.Checksum.{base256, checksum}
+use Rattle.grants_file.specs.Record.{encodeRecord, decodeRecord, wrongRecord, wrongRecords}
+use Rattle.grants_file.specs.Block.{sealed, headerBlock, recordBlock, recordsOf, wrongChecksum, wrongStart, wrongPadding}
+use Rattle.grants_file.specs.File.{fileOf, grantsIn}
+use Rattle.grants_file.specs.Verdict.{Verdict, accepted, refused, wrongBlockCount, wrongHeader, wrongLayout, lastBefore, wrongRecordsIn, blockCauses, fileCauses, verdict}
+use Rattle.grants_file.specs.BlockRead.{notInFile, wrongCount, wrongAlone, readCauses, partOf}
+use Rattle.index.specs.Causes.{grantBroken, revokeBroken}
+use Rattle.index.specs.LinkCauses.{searchMeets9, searchHits, grantMeets9, revokeMeets9}
+use Rattle.index.specs.Order.{startOrder, grantOrder, revokeOrder, listOrder, lookOrder, writeOrder, loadOrder, matchOrder}
+use Rattle.index.specs.Calls.{startCall, grantCall, revokeCall, listCall, decideCall, countCall, wordsStep}
+use Rattle.index.specs.FileCalls.{writeCall, grantAll, loadCall, firstDifference, matchCall, blockCall}
+use Rattle.claims.specs.Histories.{Told, told, after}
+use Rattle.claims.proofs.Cases.{Case, passed, one, test}
+use Rattle.claims.proofs.Cases as say
+
+abbrev box : ℕ → ℕ → ℕ → ℕ → ℕ → ℕ → Box
+box a b c d e f =
+    record { «staff_from» = a; «staff_to» = b; «door_from» = c; «door_to» = d; «quarter_from» = e; «quarter_to» = f }
+
+-- document 01's two grants of the slips
+abbrev seven : Request
+seven = record { number = 7; rank = 10; kind = 1; bounds = box 100 199 1 40 32 63 }
+
+abbrev three : Request
+three = record { number = 3; rank = 20; kind = 0; bounds = box 150 150 12 12 0 65535 }
+
+-- one whose staff from parts it from the others at level 0
+abbrev nine : Request
+nine = record { number = 9; rank = 10; kind = 1; bounds = box 40000 40001 41 50 0 9 }
+
+-- a history with every refusal that the book knows, and an inner cell revoked
+abbrev calls : List Call
+calls =
+    grant seven
+    ∷ grant three
+    ∷ grant nine
+    ∷ grant seven
+    ∷ list (box 0 65535 0 65535 0 65535) (1 ∷ 1 ∷ [])
+    ∷ list (box 150 150 1 20 40 40) (1 ∷ 1 ∷ 1 ∷ [])
+    ∷ decide 150 12 40
+    ∷ revoke 7
+    ∷ revoke 7
+    ∷ decide 150 12 40
+    ∷ decide 40000 50 9
+    ∷ count
+    ∷ grant (record { number = 0; rank = 0; kind = 0; bounds = box 0 0 0 0 0 0 })
+    ∷ grant (record { number = 1; rank = 0; kind = 2; bounds = box 0 0 0 0 0 0 })
+    ∷ grant (record { number = 1; rank = 0; kind = 0; bounds = box 0 0 2 1 0 0 })
+    ∷ grant seven
+    ∷ grant (record { number = 1; rank = 0; kind = 0; bounds = box 0 0 1 1 0 0 })
+    ∷ list (box 0 65535 0 65535 0 65535) (1 ∷ 1 ∷ 1 ∷ 1 ∷ [])
+    ∷ []
+
+abbrev numbers : List Told → List ℕ
+numbers [] = []
+numbers (t ∷ ts) = say.told (t .answer) ++ t .lent ++ numbers ts
+
+abbrev fresh : List ℕ
+fresh = startCall (replicate 33 9) .state
+
+-- two cells that link to each other
+abbrev cycle : List ℕ
+cycle = 2 ∷ 1 ∷ 0 ∷ (2 ∷ 2 ∷ replicate 8 0) ++ (1 ∷ 1 ∷ replicate 8 0)
+
+abbrev doors : Interval
+doors = record { from = 40; to = 50 }
+
+abbrev two : List Grant
+two =
+    record { number = 7; rank = 10; kind = Opens; bounds = box 100 199 1 40 32 63 }
+    ∷ record { number = 300; rank = 255; kind = Bars; bounds = box 0 65535 50 60 0 1 }
+    ∷ []
+
+abbrev verdictNumbers : Verdict → List ℕ
+verdictNumbers (accepted d gs) = 0 ∷ d .from ∷ d .to ∷ flatMap grantValues gs
+verdictNumbers (refused f) = faultNumber f ∷ faultValues f
+
+-- the grants that touch the doors: 7 and 9
+abbrev touchingTwo : List Grant → List Grant
+touchingTwo gs = keep (touches doors) gs
+
+abbrev cases : List Case
+cases =
+    -- (8a), (8b) and (4) of source 001: the search range's highs are the tos, its lows the froms
+    record { given = test (inside (rangeOfBox (box 0 9 40 50 0 9)) (5 ∷ 1 ∷ 5 ∷ 5 ∷ 40 ∷ 5 ∷ 1 ∷ [])); wanted = one 1 }
+    ∷ record { given = test (inside (rangeOfBox (box 0 9 41 50 0 9)) (5 ∷ 1 ∷ 5 ∷ 5 ∷ 40 ∷ 5 ∷ 1 ∷ [])); wanted = one 0 }
+    -- (2b): the right son's low is the middle
+    ∷ record { given = high (half side.Left rootRegion 0) 0 ∷ low (half side.Right rootRegion 0) 0 ∷ []; wanted = 32767 ∷ 32768 ∷ [] }
+    -- start, and a history on words beside the same on the book
+    ∷ record { given = fresh; wanted = 3 ∷ 0 ∷ 1 ∷ (2 ∷ replicate 9 0) ++ (3 ∷ replicate 9 0) ++ replicate 10 0 }
+    ∷ record { given = numbers (told wordsStep fresh calls); wanted = numbers (told bookStep (emptyBook 3) calls) }
+    -- the book's answers to it, by hand: an inner cell (7) is revoked and nothing behind it is lost; at equal doors 3 outranks 7
+    ∷ record {
+      given = numbers (told bookStep (emptyBook 3) (take 9 calls));
+      wanted =
+          0 ∷ 0 ∷ 0 ∷ 5
+          ∷ 8 ∷ 3 ∷ 1 ∷ 1
+          ∷ 0 ∷ 2 ∷ 3 ∷ 7 ∷ 1
+          ∷ 0 ∷ 2 ∷ 3 ∷ 20 ∷ 0 ∷ 150 ∷ 150 ∷ 12 ∷ 12 ∷ 0 ∷ 65535
+          ∷ 0
+          ∷ 7
+          ∷ [];
+    }
+    -- the words after it: 7's cell 1 had the sons 3 and 9; 3, terminal on its left, took its place; 7 came again, behind 3, in cell 1
+    ∷ record {
+      given = after wordsStep fresh calls;
+      wanted =
+          3 ∷ 2 ∷ 0
+          ∷ (0 ∷ 0 ∷ 7 ∷ 21 ∷ 100 ∷ 199 ∷ 1 ∷ 40 ∷ 32 ∷ 63 ∷ [])
+          ++ (1 ∷ 3 ∷ 3 ∷ 40 ∷ 150 ∷ 150 ∷ 12 ∷ 12 ∷ 0 ∷ 65535 ∷ [])
+          ++ (0 ∷ 0 ∷ 9 ∷ 21 ∷ 40000 ∷ 40001 ∷ 41 ∷ 50 ∷ 0 ∷ 9 ∷ []);
+    }
+    -- fault 9 on links that form a cycle
+    ∷ record { given = say.told (countCall cycle .answer); wanted = one 9 }
+    ∷ record { given = say.told (decideCall cycle 0 0 0 .answer); wanted = one 9 }
+    ∷ record { given = say.told (revokeCall cycle 5 .answer); wanted = one 9 }
+    -- a file of two grants, byte for byte, and its verdict; its two checks were computed apart
+    ∷ record {
+      given = take 12 (fileOf doors two);
+      wanted = 0x4C ∷ 0x47 ∷ 0x46 ∷ 0x31 ∷ 0 ∷ 0 ∷ 0 ∷ 2 ∷ 0 ∷ 40 ∷ 0 ∷ 50 ∷ [];
+    }
+    ∷ record { given = drop 12 (take 510 (fileOf doors two)); wanted = replicate 498 0 }
+    ∷ record {
+      given = take 40 (drop 512 (fileOf doors two));
+      wanted =
+          0x4C ∷ 0x47 ∷ 0x46 ∷ 0x31 ∷ 0 ∷ 1 ∷ 0 ∷ 2
+          ∷ 0 ∷ 7 ∷ 10 ∷ 1 ∷ 0 ∷ 100 ∷ 0 ∷ 199 ∷ 0 ∷ 1 ∷ 0 ∷ 40 ∷ 0 ∷ 32 ∷ 0 ∷ 63
+          ∷ 1 ∷ 44 ∷ 255 ∷ 0 ∷ 0 ∷ 0 ∷ 255 ∷ 255 ∷ 0 ∷ 50 ∷ 0 ∷ 60 ∷ 0 ∷ 0 ∷ 0 ∷ 1
+          ∷ [];
+    }
+    ∷ record { given = drop 552 (take 1022 (fileOf doors two)); wanted = replicate 470 0 }
+    ∷ record { given = take 2 (drop 510 (fileOf doors two)) ++ drop 1022 (fileOf doors two); wanted = 135 ∷ 176 ∷ 31 ∷ 83 ∷ [] }
+    ∷ record { given = verdictNumbers (verdict (fileOf doors two)); wanted = 0 ∷ 40 ∷ 50 ∷ flatMap grantValues two }
+    -- a byte of it changed; its doors made 41 to 50 with the check made right, so that grant 7 no longer touches them; no file
+    ∷ record { given = verdictNumbers (verdict (set (fileOf doors two) 600 1)); wanted = 12 ∷ 1 ∷ [] }
+    ∷ record { given = verdictNumbers (verdict (fileOf (record { from = 41; to = 50 }) two)); wanted = 13 ∷ 1 ∷ [] }
+    ∷ record { given = verdictNumbers (verdict []); wanted = one 10 }
+    ∷ record { given = partOf (fileOf doors two) 1; wanted = flatMap encodeRecord two }
+    ∷ record { given = partOf (fileOf doors two) 0; wanted = [] }
+    -- written for its doors after the history, whole and not clipped; held against the pool; loaded elsewhere
+    ∷ record {
+      given = writeCall (after wordsStep fresh calls) doors (replicate 1025 5) .lent;
+      wanted = fileOf doors (touchingTwo (after bookStep (emptyBook 3) calls .live)) ++ (5 ∷ []);
+    }
+    ∷ record { given = say.told (matchCall (after wordsStep fresh calls) (fileOf doors two) .answer); wanted = 0 ∷ 9 ∷ [] }
+    ∷ record { given = say.told (matchCall (loadCall (replicate 23 1) (fileOf doors two) .state) (fileOf doors two) .answer); wanted = one 0 }
+    ∷ record { given = say.told (loadCall (replicate 13 1) (fileOf doors two) .answer); wanted = one 6 }
+    ∷ []
+
+pub tried-cases : T (passed cases)
+unfolding keep every any each sameNumbers countFrom overwrite insertBy sortBy overlaps sameGrant firstFault refusing reversedBox outranks decidingOf decideAmong bookGrant bookRevoke bookList bookDecide bookCount bookStep rootRegion half meets pointOf inside rangeOfBox rangeOfDoors rangeOfNumber place fieldOf capacityOf wrongLength wrongPool grantAt withCell freeCells freshPool meet visitBy enter search wayDown descend freeBroken inserted follow terminalFrom replaced unlinked freed removed grantBroken revokeBroken startOrder grantOrder revokeOrder listOrder lookOrder startCall grantCall revokeCall listCall decideCall countCall wordsStep told after base256 checksum encodeRecord decodeRecord wrongRecord wrongRecords sealed headerBlock recordBlock recordsOf wrongChecksum wrongStart wrongPadding fileOf grantsIn wrongBlockCount wrongHeader wrongLayout lastBefore wrongRecordsIn blockCauses fileCauses verdict notInFile wrongCount wrongAlone readCauses partOf writeOrder loadOrder matchOrder writeCall grantAll loadCall firstDifference matchCall mathlib.Core.List.flatMap
+tried-cases = tt

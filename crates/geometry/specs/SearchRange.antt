@@ -1,0 +1,34 @@
+-- What the walks search for (document 01, "Boxes as points" and "The walks of a call").
+--   rangeOfBox b       list's box; decide's point is the box of that point
+--   rangeOfDoors d     write and match: the doors, with the staff and quarter axes free
+--   rangeOfNumber n    grant and revoke: the number, with all other axes free
+--   rangeOfAll         count: everything
+-- Source 001's (8a) and (8b) have min and max exchanged; condition (5) decides. Changed by card 2.
+-- Assumes nothing: these are definitions.
+use Prim.Native.Nat.{ℕ}
+use mathlib.Core.List.{[], _∷_}
+use Rattle.model.specs.declared.Box.{Box}
+use Rattle.model.specs.Interval.{Interval}
+use Rattle.geometry.specs.Width.{topOf}
+use Rattle.geometry.specs.Region.{Region, range, free, rootRegion}
+
+unfoldable pub rangeOfBox : Box → Region
+rangeOfBox b =
+    range 0 (b .«staff_to»)
+    ∷ range 0 (b .«door_to»)
+    ∷ range 0 (b .«quarter_to»)
+    ∷ range (b .«staff_from») (topOf 3)
+    ∷ range (b .«door_from») (topOf 4)
+    ∷ range (b .«quarter_from») (topOf 5)
+    ∷ free 6
+    ∷ []
+
+unfoldable pub rangeOfDoors : Interval → Region
+rangeOfDoors d =
+    free 0 ∷ range 0 (d .to) ∷ free 2 ∷ free 3 ∷ range (d .from) (topOf 4) ∷ free 5 ∷ free 6 ∷ []
+
+unfoldable pub rangeOfNumber : ℕ → Region
+rangeOfNumber n = free 0 ∷ free 1 ∷ free 2 ∷ free 3 ∷ free 4 ∷ free 5 ∷ range n n ∷ []
+
+abbrev pub rangeOfAll : Region
+rangeOfAll = rootRegion

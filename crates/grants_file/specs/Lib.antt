@@ -1,0 +1,7 @@
+-- Records, blocks and files of grants.
+pub mod Bytes
+pub mod Record
+pub mod Block
+pub mod File
+pub mod Verdict
+pub mod BlockRead

@@ -1,0 +1,5 @@
+-- Plain lists: what the definitions above need and the library lacks.
+pub mod Tests
+pub mod Ranges
+pub mod Overwrite
+pub mod Sort

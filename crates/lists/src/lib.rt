@@ -1,0 +1,1 @@
+// What the definitions say of plain lists stands in specs/. No function yet.

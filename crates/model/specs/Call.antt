@@ -1,0 +1,26 @@
+-- The calls that demand 3's lists are made of (document 01, "The plain book"), with their arguments.
+--   Request     what grant is asked to add; its kind comes as a number, since a number above 1 is fault 4
+--   Call        grant, revoke, list with its lent list, decide, count
+-- Assumes nothing: these are definitions.
+use Prim.Native.Nat.{ℕ}
+use mathlib.Core.List.{List}
+use Rattle.model.specs.declared.Box.{Box}
+use Rattle.model.specs.declared.Grant.{Grant}
+use Rattle.model.specs.Kind.{kindOf}
+
+pub record Request : Type 0 where
+  pub number : ℕ
+  pub rank : ℕ
+  pub kind : ℕ
+  pub bounds : Box
+
+-- the grant that an accepted request adds
+abbrev pub requested : Request → Grant
+requested r = record { number = r .number; rank = r .rank; kind = kindOf (r .kind); bounds = r .bounds }
+
+pub data Call : Type 0 where
+  grant : Request → Call
+  revoke : ℕ → Call
+  list : Box → List ℕ → Call
+  decide : ℕ → ℕ → ℕ → Call
+  count : Call

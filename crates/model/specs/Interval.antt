@@ -1,0 +1,17 @@
+-- A closed range of numbers: document 01's "from" and "to". Both ends belong to it.
+--   reversed i        from lies above to
+--   holds i x         x lies in the range
+-- Assumes nothing: these are definitions.
+use Prim.Native.Nat.{ℕ}
+use mathlib.Core.Bool.{Bool, _&&_}
+use lib.Dec.{leb, ltb}
+
+pub record Interval : Type 0 where
+  pub from : ℕ
+  pub to : ℕ
+
+abbrev pub reversed : Interval → Bool
+reversed i = ltb (i .to) (i .from)
+
+abbrev pub holds : Interval → ℕ → Bool
+holds i x = leb (i .from) x && leb x (i .to)

@@ -1,0 +1,25 @@
+-- How long a pool is, and the number of its cells: document 01's C (document 01, "The tree": 3 + 10 × C words, C from 1 to 2048).
+--   poolLength c      the words of a pool of c cells
+--   capacityOf w      C, from the length of w
+--   wrongLength w     fault 1: the pool's length is not as above
+--   wrongPool w       fault 1, except in start and load: that, or the first word is not its C
+-- Assumes nothing: these are definitions.
+use Prim.Native.Nat.{ℕ, _+_, _-_, _*_, _/_}
+use mathlib.Core.Bool.{Bool, not, _&&_, _||_}
+use mathlib.Core.List.{List}
+use lib.Dec.{leb, eqb}
+use lib.ListN.{length, getD}
+use Rattle.model.specs.Limits.{maxGrants}
+use Rattle.pool.specs.Layout.{capacityPlace, headerWords, cellWords}
+
+abbrev pub poolLength : ℕ → ℕ
+poolLength c = headerWords + cellWords * c
+
+unfoldable pub capacityOf : List ℕ → ℕ
+capacityOf w = (length w - headerWords) / cellWords
+
+unfoldable pub wrongLength : List ℕ → Bool
+wrongLength w = let c = capacityOf w in not (leb 1 c && leb c maxGrants && eqb (length w) (poolLength c))
+
+unfoldable pub wrongPool : List ℕ → Bool
+wrongPool w = wrongLength w || not (eqb (getD w capacityPlace 0) (capacityOf w))

@@ -1,0 +1,16 @@
+// The words of a pool: header, cells, free list (document 01, "The tree").
+// Nothing here knows of regions or of a walk.
+
+// The words of a cell, in their order.
+pub enum Field {
+    Left,
+    Right,
+    Number,
+    RankKind,
+    StaffFrom,
+    StaffTo,
+    DoorFrom,
+    DoorTo,
+    QuarterFrom,
+    QuarterTo,
+}
