@@ -4,3 +4,4 @@ pub mod Search
 pub mod Insert
 pub mod Remove
 pub mod Links
+pub mod Reach

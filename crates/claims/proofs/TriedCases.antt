@@ -46,7 +46,7 @@ use Rattle.index.specs.LinkCauses.{searchMeets9, searchHits, grantMeets9, revok
 use Rattle.index.specs.Order.{startOrder, grantOrder, revokeOrder, listOrder, lookOrder, writeOrder, loadOrder, matchOrder}
 use Rattle.index.specs.Calls.{startCall, grantCall, revokeCall, listCall, decideCall, countCall, wordsStep}
 use Rattle.index.specs.FileCalls.{writeCall, grantAll, loadCall, firstDifference, matchCall, blockCall}
-use Rattle.claims.specs.Histories.{Told, told, after}
+use Rattle.model.specs.Histories.{Told, told, after}
 use Rattle.claims.proofs.Cases.{Case, passed, one, test}
 use Rattle.claims.proofs.Cases as say
 

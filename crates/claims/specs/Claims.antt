@@ -46,11 +46,11 @@ use Rattle.index.specs.LinkCauses.{searchMeets9, searchHits, grantMeets9, revok
 use Rattle.index.specs.Order.{startOrder, grantOrder, revokeOrder, listOrder, lookOrder, writeOrder, loadOrder, matchOrder}
 use Rattle.index.specs.Calls.{startCall, grantCall, revokeCall, listCall, decideCall, countCall, wordsStep}
 use Rattle.index.specs.FileCalls.{writeCall, grantAll, loadCall, matchCall, blockCall}
-use Rattle.claims.specs.Values.{byteValues, Below, GrantFits, CallFits, CallsFit}
-use Rattle.claims.specs.Histories.{toldBy, told, after}
-use Rattle.claims.specs.Reach.{Holds}
-use Rattle.claims.specs.FileSets.{Accepted, DoorRange, FileSet, Ordering, LeastDifference}
-use Rattle.claims.specs.Judged.{Judged}
+use Rattle.model.specs.Values.{byteValues, Below, GrantFits, CallFits, CallsFit}
+use Rattle.model.specs.Histories.{toldBy, told, after}
+use Rattle.adt.specs.Reach.{Holds}
+use Rattle.grants_file.specs.FileSets.{Accepted, DoorRange, FileSet, Ordering, LeastDifference}
+use Rattle.model.specs.Judged.{Judged}
 
 -- memory for a pool of c cells, c from 1 to 2,048, whatever it holds
 pub record Memory (c : ℕ) (w : List ℕ) : Type 0 where

@@ -1,7 +1,2 @@
--- The claims. Read Claims first; the others say its words.
+-- The claims: demands 1 to 3.
 pub mod Claims
-pub mod Values
-pub mod Histories
-pub mod Reach
-pub mod FileSets
-pub mod Judged

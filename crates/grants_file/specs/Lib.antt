@@ -5,3 +5,4 @@ pub mod Block
 pub mod File
 pub mod Verdict
 pub mod BlockRead
+pub mod FileSets

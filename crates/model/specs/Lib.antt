@@ -12,3 +12,6 @@ pub mod Arguments
 pub mod Decide
 pub mod Call
 pub mod Book
+pub mod Values
+pub mod Histories
+pub mod Judged

@@ -21,8 +21,8 @@ use Rattle.model.specs.Interval.{Interval}
 use Rattle.model.specs.Grant.{touches}
 use Rattle.model.specs.Refusal.{firstFault}
 use Rattle.model.specs.Arguments.{reversedBox}
 use Rattle.grants_file.specs.Verdict.{fileCauses}
-use Rattle.claims.specs.Values.{wordValues, GrantFits}
+use Rattle.model.specs.Values.{wordValues, GrantFits}
 
 abbrev pub Accepted : List ℕ → Type 0
 Accepted f = firstFault (fileCauses f) ≡ none

@@ -1,0 +1,2 @@
+-- Laws of the tree, for the crates above.
+pub mod Spells
