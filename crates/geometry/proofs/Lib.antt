@@ -1,0 +1,2 @@
+-- Laws of points and regions, for the crates above.
+pub mod HalfLaws

@@ -1,0 +1,2 @@
+-- Laws of plain lists, for the crates above.
+pub mod EachLaws
