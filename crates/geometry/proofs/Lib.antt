@@ -1,0 +1,2 @@
+-- Laws of regions, points and search ranges, for the crates above.
+pub mod RegionLaws

@@ -1,0 +1,3 @@
+-- Laws of plain lists, for the crates above.
+pub mod TestLaws
+pub mod RangeLaws
