@@ -1,3 +1,4 @@
 -- Laws of plain lists, for the crates above.
 pub mod TestLaws
+pub mod ElementLaws
 pub mod RangeLaws

@@ -1,11 +1,9 @@
--- Laws of the runs of specs/Ranges, and of a list that is made from one.
+-- Laws of the runs of specs/Ranges.
 --   length-countFrom     as many as asked for
 --   getD-countFrom       each is one more than the last
---   getD-map             an element of a list that is made from another
 -- Assumes nothing.
 use Prim.Native.Nat.{ℕ, zero, suc, _+_, _<_}
 use mathlib.Core.Path.{_≡_, refl, ap, _∙_}
-use mathlib.Core.List.{List, [], _∷_, map}
 use native.Mathlib.Omega.{arith}
 use lib.ListN.{length, getD}
 use Rattle.lists.specs.Ranges.{countFrom}
@@ -20,8 +18,3 @@ unfolding countFrom
 getD-countFrom k zero i d h = absurd (omega arith)
 getD-countFrom k (suc n) zero d h = omega arith
 getD-countFrom k (suc n) (suc i) d h = getD-countFrom (suc k) n i d (omega arith) ∙ omega arith
-
-pub getD-map : {A B : Type 0} (f : A → B) (xs : List A) (i : ℕ) (d : A) (e : B) → i < length xs → getD (map f xs) i e ≡ f (getD xs i d)
-getD-map f [] i d e h = absurd (omega arith)
-getD-map f (x ∷ xs) zero d e h = refl
-getD-map f (x ∷ xs) (suc i) d e h = getD-map f xs i d e (omega arith)

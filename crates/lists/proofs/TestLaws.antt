@@ -1,4 +1,6 @@
 -- Laws of the tests of specs/Tests.
+--   T-iff                    a test that passes is true
+--   T-and                    two tests in one pass exactly if both do
 --   tests-agree              two tests of which each passes if the other does are one
 --   both-le, le-both         a test of two orders passes exactly if both hold
 --   each-all, all-each       the test of every number below n passes exactly if each one's does
@@ -9,15 +11,24 @@
 --   keep-same                tests that agree on the elements keep the same
 -- Assumes nothing.
 use Prim.Native.Nat.{ℕ, zero, suc, _<_, _≤_}
+use mathlib.Core.Logic.{_↔_}
 use mathlib.Core.Path.{_≡_, refl, sym, ap, _∙_}
-use mathlib.Core.Bool.{Bool, true, false, cond, _&&_, and-eq-true-iff}
+use mathlib.Core.Bool.{Bool, true, false, cond, _&&_, and-eq-true-iff, false≢true}
 use mathlib.Core.List.{List, [], _∷_, _++_, List·Memᴰ, List·Memᴰ·head, List·Memᴰ·tail, List·Memᴰ·not-nil}
 use native.Mathlib.Omega.{arith}
 use native.Mathlib.Decide.{ℕ-discrete}
 use native.Mathlib.Nat.{lt-suc-self}
-use lib.Dec.{leb}
+use lib.Dec.{T, leb}
 use borrow.Author.Tests.{leb-true, le-leb}
 use Rattle.lists.specs.Tests.{keep, every, each}
+
+pub T-iff : (t : Bool) → T t ↔ (t ≡ true)
+T-iff true = (λ _. refl, λ _. tt)
+T-iff false = (λ h. absurd h, λ e. absurd (false≢true e))
+
+pub T-and : (t u : Bool) → T (t && u) ↔ (T t × T u)
+T-and true u = (λ h. (tt, h), λ h. h .1)
+T-and false u = (λ h. absurd h, λ h. absurd (h .0))
 
 pub tests-agree : (t u : Bool) → (t ≡ true → u ≡ true) → (u ≡ true → t ≡ true) → t ≡ u
 tests-agree true u f g = sym (f refl)
