@@ -1,0 +1,100 @@
+-- Laws of a cell's words and of its grant.
+--   length-withCell             a store of a cell keeps the length
+--   field-withCell-same         a field of the cell that was stored is the word at its offset
+--   field-withCell-other        fields of other cells stay
+--   header-withCell             the header's words stay
+--   SameGrantWords w v k        the words of cell k from the number on are the same in both
+--   grantAt-same                then the grant is the same
+--   grantAt-withCell-same       the grant that was stored, if it fits
+--   grantAt-withCell-other, grantAt-set-link, grantAt-set-header     grants that other stores leave
+-- Assumes nothing.
+use Prim.Native.Nat.{ℕ, zero, suc, _+_, _*_, _/_, _%_, _<_, _≤_}
+use mathlib.Core.Path.{_≡_, refl, ap, _∙_}
+use mathlib.Core.Logic.{_≢_}
+use mathlib.Core.List.{List, [], _∷_}
+use native.Mathlib.Omega.{arith}
+use lib.ListN.{length, getD, set, length-set}
+use lib.Seq.{sets, length-sets, getD-set-same, getD-set-other}
+use Rattle.model.specs.declared.Kind.{Kind}
+use Rattle.model.specs.declared.Kind.the-variants.{Bars, Opens}
+use Rattle.model.specs.declared.Grant.{Grant}
+use Rattle.model.specs.Kind.{kindNumber, kindOf}
+use Rattle.model.specs.Values.{GrantFits}
+use Rattle.pool.specs.declared.Field.{Field}
+use Rattle.pool.specs.declared.Field.the-variants.{Left, Number, RankKind, StaffFrom, StaffTo, DoorFrom, DoorTo, QuarterFrom, QuarterTo}
+use Rattle.pool.specs.Layout.{headerWords, cellWords, offset, place, fieldOf}
+use Rattle.pool.specs.Capacity.{poolLength}
+use Rattle.pool.specs.Cell.{grantAt, cellOf, withCell}
+use Rattle.pool.proofs.LayoutLaws.{offset-lt, place-past-header, field-set-other-field, field-set-header}
+
+-- reads after a run of stores
+getD-sets-other : (l : List ℕ) (i : ℕ) (vs : List ℕ) (j d : ℕ) → ((m : ℕ) → m < length vs → j ≢ i + m) → getD (sets l i vs) j d ≡ getD l j d
+getD-sets-other l i [] j d h = refl
+getD-sets-other l i (a ∷ vs) j d h =
+    getD-sets-other (set l i a) (suc i) vs j d (λ m lt. omega (arith, h (suc m) (omega arith)))
+    ∙ getD-set-other l i j a d (omega (arith, h 0 (omega arith)))
+
+getD-sets-same : (l : List ℕ) (i : ℕ) (vs : List ℕ) (m d : ℕ) → i + length vs ≤ length l → m < length vs → getD (sets l i vs) (i + m) d ≡ getD vs m d
+getD-sets-same l i [] m d h lt = absurd (omega arith)
+getD-sets-same l i (a ∷ vs) zero d h lt =
+    getD-sets-other (set l i a) (suc i) vs (i + 0) d (λ m k. omega arith)
+    ∙ ap (λ (j : ℕ). getD (set l i a) j d) (omega arith)
+    ∙ getD-set-same l i a d (omega arith)
+getD-sets-same l i (a ∷ vs) (suc m) d h lt =
+    ap (λ (j : ℕ). getD (sets (set l i a) (suc i) vs) j d) (omega arith)
+    ∙ getD-sets-same (set l i a) (suc i) vs m d (omega (arith, length-set l i a)) (omega arith)
+
+pub length-withCell : (w : List ℕ) (k : ℕ) (ws : List ℕ) → length (withCell w k ws) ≡ length w
+unfolding withCell
+length-withCell w k ws = length-sets w (place k Left) ws
+
+module _ (w : List ℕ) (k : ℕ) (ws : List ℕ) (ten : length ws ≡ cellWords) where
+  pub field-withCell-same : (c : ℕ) (f : Field) → 0 < k → k ≤ c → length w ≡ poolLength c → fieldOf (withCell w k ws) k f ≡ getD ws (offset f) 0
+  unfolding fieldOf withCell place
+  field-withCell-same c f pos le long =
+      ap (λ (j : ℕ). getD (sets w (place k Left) ws) j 0) (omega arith)
+      ∙ getD-sets-same w (place k Left) ws (offset f) 0 (omega arith) (omega (arith, offset-lt f))
+
+  pub field-withCell-other : (j : ℕ) (f : Field) → 0 < j → 0 < k → ¬ (j ≡ k) → fieldOf (withCell w k ws) j f ≡ fieldOf w j f
+  unfolding fieldOf withCell place
+  field-withCell-other j f hj hk n = getD-sets-other w (place k Left) ws (place j f) 0 (λ m lt. omega (arith, offset-lt f))
+
+  pub header-withCell : (i : ℕ) → i < headerWords → getD (withCell w k ws) i 0 ≡ getD w i 0
+  unfolding withCell
+  header-withCell i h = getD-sets-other w (place k Left) ws i 0 (λ m lt. omega (arith, place-past-header k Left))
+
+abbrev pub SameGrantWords : List ℕ → List ℕ → ℕ → Type 0
+SameGrantWords w v k = (f : Field) → offset Number ≤ offset f → fieldOf v k f ≡ fieldOf w k f
+
+pub grantAt-same : (w v : List ℕ) (k : ℕ) → SameGrantWords w v k → grantAt v k ≡ grantAt w k
+unfolding grantAt
+grantAt-same w v k same =
+    cc (same Number (omega arith), same RankKind (omega arith), same StaffFrom (omega arith), same StaffTo (omega arith), same DoorFrom (omega arith), same DoorTo (omega arith), same QuarterFrom (omega arith), same QuarterTo (omega arith))
+
+-- rank and kind from their word
+rank-word : (r : ℕ) (k : Kind) → r < 256 → (r * 2 + kindNumber k) / 2 % 256 ≡ r
+rank-word r Bars h = omega arith
+rank-word r Opens h = omega arith
+
+kind-word : (r : ℕ) (k : Kind) → kindOf ((r * 2 + kindNumber k) % 2) ≡ k
+kind-word r Bars = ap kindOf (let e : (r * 2 + 0) % 2 ≡ 0 = omega arith in e)
+kind-word r Opens = ap kindOf (let e : (r * 2 + 1) % 2 ≡ 1 = omega arith in e)
+
+pub grantAt-withCell-same : (w : List ℕ) (c k l r : ℕ) (g : Grant) → 0 < k → k ≤ c → length w ≡ poolLength c → GrantFits g
+    → grantAt (withCell w k (cellOf l r g)) k ≡ g
+unfolding grantAt
+grantAt-withCell-same w c k l r g pos le long fits =
+    let v = withCell w k (cellOf l r g) in
+    let at : (f : Field) → fieldOf v k f ≡ getD (cellOf l r g) (offset f) 0 = λ f. field-withCell-same w k (cellOf l r g) refl c f pos le long in
+    rw (at Number, at RankKind, at StaffFrom, at StaffTo, at DoorFrom, at DoorTo, at QuarterFrom, at QuarterTo, rank-word (g .rank) (g .kind) (fits .rank), kind-word (g .rank) (g .kind)) refl
+
+pub grantAt-withCell-other : (w : List ℕ) (j k : ℕ) (ws : List ℕ) → length ws ≡ cellWords → 0 < j → 0 < k → ¬ (j ≡ k)
+    → grantAt (withCell w k ws) j ≡ grantAt w j
+grantAt-withCell-other w j k ws ten hj hk n = grantAt-same w (withCell w k ws) j (λ f h. field-withCell-other w k ws ten j f hj hk n)
+
+-- a store of a word before the number
+pub grantAt-set-link : (w : List ℕ) (j k : ℕ) (f : Field) (v : ℕ) → offset f < offset Number → grantAt (set w (place k f) v) j ≡ grantAt w j
+grantAt-set-link w j k f v h = grantAt-same w (set w (place k f) v) j (λ g i. field-set-other-field w j k f g v (omega arith))
+
+pub grantAt-set-header : (w : List ℕ) (i k v : ℕ) → i < headerWords → grantAt (set w i v) k ≡ grantAt w k
+grantAt-set-header w i k v h = grantAt-same w (set w i v) k (λ f j. field-set-header w i k f v h)

@@ -1,0 +1,5 @@
+-- Laws of a pool's words, for the crates above.
+pub mod LayoutLaws
+pub mod CellLaws
+pub mod CapacityLaws
+pub mod FreshLaws
