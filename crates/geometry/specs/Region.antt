@@ -1,5 +1,5 @@
 -- Regions (document 01, "The tree"): seven ranges, each a low and a high, both of it. Search ranges have the same form.
---   Shaped r              r has seven ranges of two numbers each
+--   Shape r               r has seven ranges of two numbers each
 --   low r a, high r a     the ends on an axis
 --   rootRegion            all of every axis
 --   middle r a            where the axis is parted: the last coordinate of the lower half
@@ -24,7 +24,7 @@ use Rattle.geometry.specs.Width.{topOf}
 abbrev pub Region : Type 0
 Region = List (List ℕ)
 
-pub record Shaped (r : Region) : Type 0 where
+pub record Shape (r : Region) : Type 0 where
   pub rows : length r ≡ axes
   pub ends : (a : ℕ) → a < axes → length (getD r a []) ≡ 2
 

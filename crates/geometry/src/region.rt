@@ -4,7 +4,7 @@ ghost use mathlib.Core.Bool.{_&&_};
 ghost use lib.Dec.{leb};
 ghost use Prim.Native.Nat.{_<_};
 ghost use Rattle.geometry.specs.Axis.{axes};
-ghost use Rattle.geometry.specs.Region.{Shaped, rootRegion, half, meets, meetsOn, sideOf};
+ghost use Rattle.geometry.specs.Region.{Shape, rootRegion, half, meets, meetsOn, sideOf};
 ghost use Rattle.geometry.specs.Point.{inside};
 use crate::Side;
 use crate::axis::AXES;
@@ -65,7 +65,7 @@ fn share(low: usize, high: usize, from: usize, to: usize) -> bool
 
 // Whether the half of the region on a side meets the range on the axis that is halved.
 pub fn half_meets(side: Side, region: &[[u16; 2]; 7], axis: usize, range: &[[u16; 2]; 7]) -> bool
-    requires { ⌜ (axis < axes) × Shaped (now region) ⌝ }
+    requires { ⌜ (axis < axes) × Shape (now region) ⌝ }
     ensures { λ r. ⌜ r ≡ meetsOn (half side (now (region .entry)) axis) (now (range .entry)) axis ⌝ }
 {
     let low = wide(region[axis][0]);

@@ -5,9 +5,11 @@ ghost use lib.ListN.{length};
 ghost use Rattle.model.specs.Limits.{maxGrants};
 ghost use Rattle.model.specs.Kind.{kindOf, kindNumber};
 ghost use Rattle.pool.specs.Capacity.{poolLength};
+ghost use Rattle.pool.specs.Layout.{cellWords};
 ghost use Rattle.pool.specs.Cell.{grantAt, cellOf, withCell};
 ghost use Rattle.pool.specs.Fresh.{freeCell};
 use crate::Field;
+use crate::layout::CELL_WORDS;
 use crate::layout::field;
 use crate::layout::place_of;
 use model::Box;
@@ -57,31 +59,46 @@ pub fn grant_at(pool: &[u16], cell: usize) -> Grant
     }
 }
 
+// Stores the words of a cell.
+fn store_cell(pool: &mut [u16], cell: usize, words: [u16; 10])
+    requires { ⌜ (0 < cell) × (cell ≤ maxGrants) × (poolLength cell ≤ length (now pool)) × (length words ≡ cellWords) ⌝ }
+    ensures { λ r. ⌜ now (pool .exit) ≡ withCell (now (pool .entry)) cell words ⌝ }
+{
+    let at = place_of(cell, Field::Left);
+    let mut i: usize = 0;
+    while i < CELL_WORDS {
+        pool[at + i] = words[i];
+        i += 1;
+    }
+}
+
 // Stores a grant as a node without sons.
 pub fn store_grant(pool: &mut [u16], cell: usize, g: Grant)
     requires { ⌜ (0 < cell) × (cell ≤ maxGrants) × (poolLength cell ≤ length (now pool)) ⌝ }
     ensures { λ r. ⌜ now (pool .exit) ≡ withCell (now (pool .entry)) cell (cellOf 0 0 g) ⌝ }
 {
-    let bounds = g.bounds;
-    let rank_kind = g.rank as u16 * 2 + kind_number(g.kind);
-    let left = place_of(cell, Field::Left);
-    pool[left] = 0;
-    let right = left + 1;
-    pool[right] = 0;
-    let number = right + 1;
-    pool[number] = g.number;
-    let rank = number + 1;
-    pool[rank] = rank_kind;
-    let staff_from = rank + 1;
-    pool[staff_from] = bounds.staff_from;
-    let staff_to = staff_from + 1;
-    pool[staff_to] = bounds.staff_to;
-    let door_from = staff_to + 1;
-    pool[door_from] = bounds.door_from;
-    let door_to = door_from + 1;
-    pool[door_to] = bounds.door_to;
-    let quarter_from = door_to + 1;
-    pool[quarter_from] = bounds.quarter_from;
-    let quarter_to = quarter_from + 1;
-    pool[quarter_to] = bounds.quarter_to;
+    let b = g.bounds;
+    let kind = g.kind;
+    let rank_kind = g.rank as u16 * 2 + kind_number(kind);
+    let words = [
+        0,
+        0,
+        g.number,
+        rank_kind,
+        b.staff_from,
+        b.staff_to,
+        b.door_from,
+        b.door_to,
+        b.quarter_from,
+        b.quarter_to,
+    ];
+    store_cell(pool, cell, words);
+}
+
+// Stores a free cell that leads to the next one.
+pub fn store_free(pool: &mut [u16], cell: usize, next: u16)
+    requires { ⌜ (0 < cell) × (cell ≤ maxGrants) × (poolLength cell ≤ length (now pool)) ⌝ }
+    ensures { λ r. ⌜ now (pool .exit) ≡ withCell (now (pool .entry)) cell (freeCell next) ⌝ }
+{
+    store_cell(pool, cell, [next, 0, 0, 0, 0, 0, 0, 0, 0, 0]);
 }

@@ -15,7 +15,7 @@ pub const FREE: usize = 2;
 
 const HEADER_WORDS: usize = 3;
 
-const CELL_WORDS: usize = 10;
+pub const CELL_WORDS: usize = 10;
 
 // Document 01's highest C.
 pub const MAX_CAPACITY: usize = 2048;

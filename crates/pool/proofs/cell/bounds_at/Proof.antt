@@ -1,3 +1,5 @@
+-- `cell::bounds_at` meets its contract, field by field. Assumes nothing.
+use Rattle.pool.specs.Cell.{grantAt}
 use borrow.Author.Needs.{needs}
 use Rattle.pool.proofs.cell.bounds_at.Statement.{statement}
 use Rattle.pool.proofs.cell.bounds_at.Tie as tie
@@ -21,7 +23,8 @@ field-requires-6 : tie.Need-field-requires-6
 field-requires-6 c κs = search needs
 
 returns : tie.Need-returns
-returns c = search needs
+unfolding grantAt
+returns c = rw (c .before .before .before .before .before .field .ensures, c .before .before .before .before .field2 .ensures, c .before .before .before .field3 .ensures, c .before .before .field4 .ensures, c .before .field5 .ensures, c .field6 .ensures)
 
 pub bounds-at-spec : {M : Type 1} → statement M
 bounds-at-spec =

@@ -1,3 +1,5 @@
+-- `cell::grant_at` meets its contract, field by field. Assumes nothing.
+use Rattle.pool.specs.Cell.{grantAt}
 use borrow.Author.Needs.{needs}
 use Rattle.pool.proofs.cell.grant_at.Statement.{statement}
 use Rattle.pool.proofs.cell.grant_at.Tie as tie
@@ -18,7 +20,8 @@ bounds-at-requires : tie.Need-bounds-at-requires
 bounds-at-requires c κs = search needs
 
 returns : tie.Need-returns
-returns c = search needs
+unfolding grantAt
+returns c = rw (c .bounds-at .ensures, c .before .kind-of .ensures, c .before .before .field2 .ensures, c .before .before .before .field .ensures)
 
 pub grant-at-spec : {M : Type 1} → statement M
 grant-at-spec =

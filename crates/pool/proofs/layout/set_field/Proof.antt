@@ -1,3 +1,4 @@
+-- `layout::set_field` meets its contract. Assumes nothing.
 use borrow.Author.Needs.{needs}
 use Rattle.pool.proofs.layout.set_field.Statement.{statement}
 use Rattle.pool.proofs.layout.set_field.Tie as tie
@@ -15,7 +16,7 @@ same-length : tie.Need-same-length
 same-length c = search needs
 
 returns : tie.Need-returns
-returns c = search needs
+returns c = rw (c .place-of .ensures .0)
 
 pub set-field-spec : {M : Type 1} → statement M
 set-field-spec =
