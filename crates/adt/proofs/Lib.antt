@@ -1,2 +1,4 @@
 -- Laws of the tree, for the crates above.
 pub mod Spells
+pub mod SearchSteps
+pub mod EnterSteps
