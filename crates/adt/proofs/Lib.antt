@@ -1,2 +1,5 @@
 -- Laws of the tree, for the crates above.
 pub mod Spells
+pub mod TreeLaws
+pub mod PartLaws
+pub mod SearchLaws

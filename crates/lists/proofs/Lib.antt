@@ -2,3 +2,4 @@
 pub mod TestLaws
 pub mod ElementLaws
 pub mod RangeLaws
+pub mod DistinctLaws
