@@ -2,4 +2,6 @@
 pub mod Spells
 pub mod TreeLaws
 pub mod PartLaws
+pub mod PartRegion
 pub mod SearchLaws
+pub mod WayLaws

@@ -1,4 +1,6 @@
 -- Laws of regions, points and search ranges, for the crates above.
 pub mod AxisLaws
 pub mod RegionLaws
+pub mod PointLaws
+pub mod LevelLaws
 pub mod SearchRangeLaws
