@@ -54,9 +54,9 @@ module _ (w : List ℕ) (c : ℕ) (q : Region) where
         pub enter-above : meets g q ≡ true → c < k → broken ≡ enter w c q n link g now
         enter-above m a = sym (enter-cases ∙ rw (m, lt-leb k c a))
 
-        pub enter-visits : meets g q ≡ true → k ≤ c
-            → visitBy w c q (enter w c q (n - 1)) (record { level = levels - (n - 1); link = link }) k g now ≡ enter w c q n link g now
-        enter-visits m a = sym (enter-cases ∙ rw (m, le-leb k c a))
+        pub enter-visits : {h : Region} → h ≡ g → meets g q ≡ true → k ≤ c
+            → visitBy w c q (enter w c q (n - 1)) (record { level = levels - (n - 1); link = link }) k h now ≡ enter w c q n link g now
+        enter-visits i m a = rw i (sym (enter-cases ∙ rw (m, le-leb k c a)))
 
   pub enter-broken : (n link : ℕ) (g : Region) → enter w c q n link g broken ≡ broken
   unfolding enter

@@ -2,3 +2,8 @@
 pub mod Spells
 pub mod SearchSteps
 pub mod EnterSteps
+pub mod TreeLaws
+pub mod PartLaws
+pub mod PartRegion
+pub mod SearchLaws
+pub mod WayLaws
