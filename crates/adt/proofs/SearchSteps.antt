@@ -82,14 +82,14 @@ module _ (w : List ℕ) (c : ℕ) (q : Region) (here : Spot) (k : ℕ) (h : List
 
       pub test-first : (t : List ℕ) → Counted c h t → met ≡ metIn t → found ≡ foundIn t → found ≤ 0
           → Stands c true (set h found k) (set (set (set (set t 0 (met + 1)) 1 (found + 1)) 2 (here .level)) 3 (here .link))
-            (meet w c q here k (searchIn true h t))
+          (meet w c q here k (searchIn true h t))
       unfolding meet
       test-first t n em ef z = four P go t (n .tally-room) n em ef
         where
           P : List ℕ → Type 0
           P t = Counted c h t → met ≡ metIn t → found ≡ foundIn t
               → Stands c true (set h found k) (set (set (set (set t 0 (met + 1)) 1 (found + 1)) 2 (here .level)) 3 (here .link))
-                (meet w c q here k (searchIn true h t))
+              (meet w c q here k (searchIn true h t))
 
           go : (a b d e : ℕ) → P (a ∷ b ∷ d ∷ e ∷ [])
           go a b d e n i j = record {

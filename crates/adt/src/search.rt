@@ -2,14 +2,13 @@
 // the range and visits its cell. The levels remaining fall. A search that meets a cause of fault 9 answers false at once.
 ghost use mathlib.Core.Path.{_≡_};
 ghost use mathlib.Core.Bool.{true};
-ghost use Prim.Native.Nat.{suc, _-_, _<_, _≤_};
+ghost use Prim.Native.Nat.{_-_, _<_, _≤_};
 ghost use lib.ListN.{length};
 ghost use Rattle.geometry.specs.Axis.{axes, axisOf};
 ghost use Rattle.geometry.specs.Levels.{levels};
 ghost use Rattle.geometry.specs.Region.{Shape, half, meets};
-ghost use Rattle.pool.specs.Capacity.{capacityOf};
 ghost use Rattle.adt.specs.Search.{meet, visitBy, enter, search};
-ghost use Rattle.adt.specs.SearchMemory.{searchIn, Ready, Stands};
+ghost use Rattle.adt.specs.SearchMemory.{searchIn, Fresh, Ready, Stands};
 use crate::node::point_at;
 use crate::node::wide;
 use geometry::Side;
@@ -87,11 +86,33 @@ fn visit(
         return false;
     }
     let left = place_of(k, Field::Left);
-    if !enter(pool, cells, below, left, Side::Left, axis, region, range, hits, tally) {
+    if !enter(
+        pool,
+        cells,
+        below,
+        left,
+        Side::Left,
+        axis,
+        region,
+        range,
+        hits,
+        tally,
+    ) {
         return false;
     }
     let right = place_of(k, Field::Right);
-    enter(pool, cells, below, right, Side::Right, axis, region, range, hits, tally)
+    enter(
+        pool,
+        cells,
+        below,
+        right,
+        Side::Right,
+        axis,
+        region,
+        range,
+        hits,
+        tally,
+    )
 }
 
 // Goes through the link at a place to the son on a side, if it leads to a cell and the half of the father's region there meets the
@@ -124,5 +145,41 @@ fn enter(
     if cells < k {
         return false;
     }
-    visit(pool, cells, below - 1, k, link, halve(side, region, axis), range, hits, tally)
+    visit(
+        pool,
+        cells,
+        below - 1,
+        k,
+        link,
+        halve(side, region, axis),
+        range,
+        hits,
+        tally,
+    )
+}
+
+// Searches the tree for the cells whose points lie in the range. Leaves them in `hits`, in the order of the search, and in `tally` how many
+// there are, with the first one's level and the place of its link. False where the walk met a cause of fault 9.
+pub fn search(
+    pool: &[u16],
+    cells: usize,
+    range: &[[u16; 2]; 7],
+    hits: &mut [u16; 2048],
+    tally: &mut [usize; 4],
+) -> bool
+    requires { ⌜ Fresh (now pool) cells (now hits) (now tally) ⌝ }
+    ensures { λ r. ⌜ Stands cells r (now (hits .exit)) (now (tally .exit)) (search (now (pool .entry)) (now (range .entry))) ⌝ }
+{
+    let k = wide(pool[ROOT]);
+    if k == 0 {
+        return true;
+    }
+    let region = root_region();
+    if !meets_range(&region, range) {
+        return true;
+    }
+    if cells < k {
+        return false;
+    }
+    visit(pool, cells, LEVELS, k, ROOT, region, range, hits, tally)
 }

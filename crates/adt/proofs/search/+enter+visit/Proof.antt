@@ -109,7 +109,7 @@ visit-test-requires t c κs = search needs
 visit-returns : (t : ℕ) → visit-lts.Need-returns (visit-calls t) (visit-at t) visit.Post
 visit-returns t c =
     let d = c .before .test .ensures in
-    record { counted = d .counted; state = visit-broken (c .before .before .before .before .before .before .args .pool .now) (c .before .before .before .before .before .before .args .cells) (c .before .before .before .before .before .before .args .range .now) (c .before .before .before .before .before .before .args .below) (record { level = levels - c .before .before .before .before .before .before .args .below; link = c .before .before .before .before .before .before .args .link }) (c .before .before .before .before .before .before .args .k) (c .before .before .before .before .before .before .args .t6) _ (stands-as d (not-true _ (c .if1 .taken))) }
+    record { counted = d .counted; state = visit-broken (c .before .before .before .before .before .before .args .pool .now) (c .before .before .before .before .before .before .args .cells) (c .before .before .before .before .before .before .args .range .now) (c .before .before .before .before .before .before .args .below) (record { level = levels - c .before .before .before .before .before .before .args .below; link = c .before .before .before .before .before .before .args .link }) (c .before .before .before .before .before .before .args .k) (c .before .before .before .before .before .before .args .region) _ (stands-as d (not-true _ (c .if1 .taken))) }
 
 visit-place-of-requires : (t : ℕ) → visit-lts.Need-place-of-requires (visit-calls t) (visit-at t) visit.Post
 visit-place-of-requires t c κs = search needs
@@ -123,7 +123,7 @@ visit-returns-2 : (t : ℕ) → visit-lts.Need-returns-2 (visit-calls t) (visit-
 visit-returns-2 t c =
     let d = c .before .before .before .before .before .before .test .ensures in
     let e = c .before .enter .ensures in
-    record { counted = e .counted; state = visit-left-broken (c .before .before .before .before .before .before .before .before .before .before .before .args .pool .now) (c .before .before .before .before .before .before .before .before .before .before .before .args .cells) (c .before .before .before .before .before .before .before .before .before .before .before .args .range .now) (c .before .before .before .before .before .before .before .before .before .before .before .args .below) (record { level = levels - c .before .before .before .before .before .before .before .before .before .before .before .args .below; link = c .before .before .before .before .before .before .before .before .before .before .before .args .link }) (c .before .before .before .before .before .before .before .before .before .before .before .args .k) (c .before .before .before .before .before .before .before .before .before .before .before .args .t6) _ (c .before .before .before .before .before .before .before .before .before .axis-of .ensures .0) (c .before .before .before .before .place-of .ensures .0) (stands-as d (not-false _ (c .before .before .before .before .before .if1 .left))) (stands-as e (not-true _ (c .if2 .taken))) }
+    record { counted = e .counted; state = visit-left-broken (c .before .before .before .before .before .before .before .before .before .before .before .args .pool .now) (c .before .before .before .before .before .before .before .before .before .before .before .args .cells) (c .before .before .before .before .before .before .before .before .before .before .before .args .range .now) (c .before .before .before .before .before .before .before .before .before .before .before .args .below) (record { level = levels - c .before .before .before .before .before .before .before .before .before .before .before .args .below; link = c .before .before .before .before .before .before .before .before .before .before .before .args .link }) (c .before .before .before .before .before .before .before .before .before .before .before .args .k) (c .before .before .before .before .before .before .before .before .before .before .before .args .region) _ (c .before .before .before .before .before .before .before .before .before .axis-of .ensures .0) (c .before .before .before .before .place-of .ensures .0) (stands-as d (not-false _ (c .before .before .before .before .before .if1 .left))) (stands-as e (not-true _ (c .if2 .taken))) }
 
 visit-place-of-requires-2 : (t : ℕ) → visit-lts.Need-place-of-requires-2 (visit-calls t) (visit-at t) visit.Post
 visit-place-of-requires-2 t c κs = search needs
@@ -138,7 +138,7 @@ visit-returns-3 t c =
     let d = c .before .before .before .before .before .before .before .before .before .before .test .ensures in
     let e = c .before .before .before .before .before .enter .ensures in
     let f = c .enter2 .ensures in
-    record { counted = f .counted; state = visit-steps (c .before .before .before .before .before .before .before .before .before .before .before .before .before .before .before .args .pool .now) (c .before .before .before .before .before .before .before .before .before .before .before .before .before .before .before .args .cells) (c .before .before .before .before .before .before .before .before .before .before .before .before .before .before .before .args .range .now) (c .before .before .before .before .before .before .before .before .before .before .before .before .before .before .before .args .below) (record { level = levels - c .before .before .before .before .before .before .before .before .before .before .before .before .before .before .before .args .below; link = c .before .before .before .before .before .before .before .before .before .before .before .before .before .before .before .args .link }) (c .before .before .before .before .before .before .before .before .before .before .before .before .before .before .before .args .k) (c .before .before .before .before .before .before .before .before .before .before .before .before .before .before .before .args .t6) _ (c .before .before .before .before .before .before .before .before .before .before .before .before .before .axis-of .ensures .0) (c .before .before .before .before .before .before .before .before .place-of .ensures .0) (c .before .before .before .place-of2 .ensures .0) (stands-as d (not-false _ (c .before .before .before .before .before .before .before .before .before .if1 .left))) (stands-as e (not-false _ (c .before .before .before .before .if2 .left))) (f .state) }
+    record { counted = f .counted; state = visit-steps (c .before .before .before .before .before .before .before .before .before .before .before .before .before .before .before .args .pool .now) (c .before .before .before .before .before .before .before .before .before .before .before .before .before .before .before .args .cells) (c .before .before .before .before .before .before .before .before .before .before .before .before .before .before .before .args .range .now) (c .before .before .before .before .before .before .before .before .before .before .before .before .before .before .before .args .below) (record { level = levels - c .before .before .before .before .before .before .before .before .before .before .before .before .before .before .before .args .below; link = c .before .before .before .before .before .before .before .before .before .before .before .before .before .before .before .args .link }) (c .before .before .before .before .before .before .before .before .before .before .before .before .before .before .before .args .k) (c .before .before .before .before .before .before .before .before .before .before .before .before .before .before .before .args .region) _ (c .before .before .before .before .before .before .before .before .before .before .before .before .before .axis-of .ensures .0) (c .before .before .before .before .before .before .before .before .place-of .ensures .0) (c .before .before .before .place-of2 .ensures .0) (stands-as d (not-false _ (c .before .before .before .before .before .before .before .before .before .if1 .left))) (stands-as e (not-false _ (c .before .before .before .before .if2 .left))) (f .state) }
 
 pub +enter+visit-spec : {M : Type 1} → statement M
 +enter+visit-spec = close μ-enter μ-visit (λ t. enter-lts.spec (
