@@ -3,6 +3,7 @@ pub mod Spells
 pub mod SearchSteps
 pub mod EnterSteps
 pub mod SearchStarts
+pub mod WaySteps
 pub mod TreeLaws
 pub mod PartLaws
 pub mod PartRegion
