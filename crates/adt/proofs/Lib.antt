@@ -1,2 +1,5 @@
 -- Laws of the tree, for the crates above.
 pub mod Spells
+pub mod LinkLaws
+pub mod SearchSpots
+pub mod SearchLinks
