@@ -3,3 +3,5 @@ pub mod Spells
 pub mod LinkLaws
 pub mod SearchSpots
 pub mod SearchLinks
+pub mod WayLinks
+pub mod RemovalLinks

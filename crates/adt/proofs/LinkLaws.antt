@@ -4,17 +4,20 @@
 --   brokenBy-deep      so does one that leads below the last level
 --   brokenBy-full      so does any link once C cells were met
 --   brokenBy-more      any other link only adds one to the cells met
+--   brokenBy-blank     the links behind one that may be blank
+--   brokenBy-next      a walk that tests a link and goes on behind it is broken as the links are
 --   Within c f         the link f is not above C, and leads not below the last level
 --   unbroken-few, unbroken-first   what a list that is not broken says of its length, and of the first link that passes a test
 -- Assumes nothing.
 use Prim.Native.Nat.{ℕ, suc, _+_, _<_, _≤_}
 use mathlib.Core.Path.{_≡_, refl, sym, ap, _∙_}
-use mathlib.Core.Bool.{Bool, true, false, cond, _||_, or-true, true≢false}
+use mathlib.Core.Bool.{Bool, true, false, cond, _&&_, _||_, or-true, true≢false}
 use mathlib.Core.List.{List, [], _∷_, nil≢cons, head-eq-of-cons-eq}
-use lib.Dec.{ltb}
+use lib.Dec.{leb, ltb}
 use lib.ListN.{length}
+use native.Mathlib.Decide.{decLe, decLt}
 use native.Mathlib.Omega.{arith}
-use borrow.Author.Tests.{ltb-false, lt-ltb, le-ltb}
+use borrow.Author.Tests.{ltb-false, lt-ltb, le-ltb, le-leb, lt-leb}
 use Rattle.lists.specs.Tests.{keep, any}
 use Rattle.geometry.specs.Levels.{levels}
 use Rattle.adt.specs.Links.{Link, brokenBy}
@@ -41,6 +44,22 @@ module _ (c met : ℕ) (link : Link) (links : List Link) where
   brokenBy-more low above =
       let shift : met + suc (length links) ≡ suc met + length links = omega arith in
       rw (le-ltb c (link .to) low, le-ltb levels (link .level) above, shift)
+
+-- the links behind one that may be blank
+pub brokenBy-blank : (c met : ℕ) (blank : Bool) (links : List Link) → met ≤ c → brokenBy c met (cond blank [] links) ≡ cond blank false (brokenBy c met links)
+brokenBy-blank c met true links few = brokenBy-none c met few
+brokenBy-blank c met false links few = refl
+
+-- a walk that tests the link and then goes on behind it
+pub brokenBy-next : (c met : ℕ) (link : Link) (links : List Link) (rest : Bool) → link .level ≤ levels
+    → (met < c → rest ≡ brokenBy c (suc met) links)
+    → cond (leb (link .to) c && ltb met c) rest true ≡ brokenBy c met (link ∷ links)
+brokenBy-next c met link links rest above goes = go (decLe (link .to) c) (decLt met c)
+  where
+    go : Dec (link .to ≤ c) → Dec (met < c) → cond (leb (link .to) c && ltb met c) rest true ≡ brokenBy c met (link ∷ links)
+    go (no high) room = rw (lt-leb (link .to) c (omega arith)) (sym (brokenBy-high c met link links (omega arith)))
+    go (yes low) (no full) = rw (le-leb (link .to) c low, le-ltb met c (omega arith)) (sym (brokenBy-full c met link links (omega arith)))
+    go (yes low) (yes room) = rw (le-leb (link .to) c low, lt-ltb met c room) (goes room ∙ sym (brokenBy-more c met link links low above))
 
 or-left : (a b : Bool) → (a || b) ≡ false → a ≡ false
 or-left true b e = e
