@@ -1,0 +1,3 @@
+-- Laws of the model, for the crates above.
+pub mod AnswerLaws
+pub mod JudgedLaws
