@@ -8,6 +8,7 @@
 --   brokenBy-next      a walk that tests a link and goes on behind it is broken as the links are
 --   Within c f         the link f is not above C, and leads not below the last level
 --   unbroken-few, unbroken-first   what a list that is not broken says of its length, and of the first link that passes a test
+--   or-left, or-right  of two tests of which none passes
 -- Assumes nothing.
 use Prim.Native.Nat.{ℕ, suc, _+_, _<_, _≤_}
 use mathlib.Core.Path.{_≡_, refl, sym, ap, _∙_}
@@ -21,6 +22,14 @@ use borrow.Author.Tests.{ltb-false, lt-ltb, le-ltb, le-leb, lt-leb}
 use Rattle.lists.specs.Tests.{keep, any}
 use Rattle.geometry.specs.Levels.{levels}
 use Rattle.adt.specs.Links.{Link, brokenBy}
+
+pub or-left : (a b : Bool) → (a || b) ≡ false → a ≡ false
+or-left true b e = e
+or-left false b e = refl
+
+pub or-right : (a b : Bool) → (a || b) ≡ false → b ≡ false
+or-right true b e = absurd (true≢false e)
+or-right false b e = e
 
 pub brokenBy-none : (c met : ℕ) → met ≤ c → brokenBy c met [] ≡ false
 unfolding brokenBy any
@@ -46,7 +55,8 @@ module _ (c met : ℕ) (link : Link) (links : List Link) where
       rw (le-ltb c (link .to) low, le-ltb levels (link .level) above, shift)
 
 -- the links behind one that may be blank
-pub brokenBy-blank : (c met : ℕ) (blank : Bool) (links : List Link) → met ≤ c → brokenBy c met (cond blank [] links) ≡ cond blank false (brokenBy c met links)
+pub brokenBy-blank : (c met : ℕ) (blank : Bool) (links : List Link) → met ≤ c
+    → brokenBy c met (cond blank [] links) ≡ cond blank false (brokenBy c met links)
 brokenBy-blank c met true links few = brokenBy-none c met few
 brokenBy-blank c met false links few = refl
 
@@ -60,14 +70,6 @@ brokenBy-next c met link links rest above goes = go (decLe (link .to) c) (decLt 
     go (no high) room = rw (lt-leb (link .to) c (omega arith)) (sym (brokenBy-high c met link links (omega arith)))
     go (yes low) (no full) = rw (le-leb (link .to) c low, le-ltb met c (omega arith)) (sym (brokenBy-full c met link links (omega arith)))
     go (yes low) (yes room) = rw (le-leb (link .to) c low, lt-ltb met c room) (goes room ∙ sym (brokenBy-more c met link links low above))
-
-or-left : (a b : Bool) → (a || b) ≡ false → a ≡ false
-or-left true b e = e
-or-left false b e = refl
-
-or-right : (a b : Bool) → (a || b) ≡ false → b ≡ false
-or-right true b e = absurd (true≢false e)
-or-right false b e = e
 
 -- where no element of a list passes one test, the first that passes another does not pass it either
 first-kept : {A : Type 0} (t u : A → Bool) (xs : List A) (y : A) (ys : List A) → any t xs ≡ false → keep u xs ≡ y ∷ ys → t y ≡ false

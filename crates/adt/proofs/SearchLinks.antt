@@ -1,5 +1,6 @@
 -- The search that stops and document 01's links are one search: it is broken exactly where they are, and else its hits are theirs.
 --   passAll-closed       a walk through a list of spots, from any state that goes on
+--   enter-closed         the walk from any link on, from any such state
 --   search-broken-iff    the search is broken exactly if its links are
 --   FirstHit, Searched   what a search that goes to its end found: of its first hit, and of all
 --   search-going         a search that goes to its end found that
@@ -21,8 +22,8 @@ use Rattle.geometry.specs.Levels.{levels}
 use Rattle.geometry.specs.Region.{Region, rootRegion}
 use Rattle.pool.specs.Layout.{rootPlace}
 use Rattle.pool.specs.Capacity.{capacityOf}
-use Rattle.adt.specs.Search.{Spot, nowhere, Search, broken, going, firstSpot, meet, search}
-use Rattle.adt.specs.Links.{Link, brokenBy, searchLinks, isHit, hitsAmong}
+use Rattle.adt.specs.Search.{Spot, nowhere, Search, broken, going, firstSpot, meet, enter, search}
+use Rattle.adt.specs.Links.{Link, brokenBy, searchFrom, searchLinks, isHit, hitsAmong}
 use Rattle.adt.proofs.LinkLaws.{brokenBy-none, brokenBy-high, brokenBy-deep, brokenBy-full, brokenBy-more, Within, unbroken-few, unbroken-first}
 use Rattle.adt.proofs.SearchSpots.{linkAt, linksAt, spotsFrom, searchFrom-spots, pass, passAll, passAll-broken, pass-deep, enter-passes}
 
@@ -127,6 +128,16 @@ module _ (w : List ℕ) (c : ℕ) (q : Region) where
   passAll-closed [] met hits first few = sym (rw (brokenBy-none c met few) (reached-none met hits first))
   passAll-closed (here ∷ spots) met hits first few = closed-more here spots met hits first (passAll-closed spots (suc met))
 
+  -- from any link on, n levels left below the father: the first hit hangs where it did, else at the spot of the first link that is a hit
+  pub enter-closed : (n l at : ℕ) (g : Region) (met : ℕ) (hits : List ℕ) (first : Spot) → l + n ≡ suc levels → met ≤ c
+      → let links = searchFrom w q n l at g in
+      let spot = firstSpot hits first (headOr first (keep (isHitAt w q) (spotsFrom w q n l at g))) in
+      enter w c q n at g (going met hits first)
+      ≡ cond (brokenBy c met links) broken (going (met + length links) (hits ++ hitsAmong w q links) spot)
+  enter-closed n l at g met hits first depth few =
+      rw (searchFrom-spots w q n l at g)
+      (enter-passes w c q n l at g (going met hits first) depth ∙ passAll-closed (spotsFrom w q n l at g) met hits first few)
+
 keep-map : {A B : Type 0} (f : A → B) (t : B → Bool) (xs : List A) → keep t (map f xs) ≡ map f (keep (λ x. t (f x)) xs)
 unfolding keep
 keep-map f t [] = refl
@@ -176,11 +187,10 @@ module _ (w : List ℕ) (q : Region) where
       going (length (searchLinks w q)) (hitsAmong w q (searchLinks w q)) (headOr nowhere (keep (isHitAt w q) searchSpots))
 
   search-closed : search w q ≡ cond (brokenBy (capacityOf w) 0 (searchLinks w q)) broken wholeSearch
-  unfolding search
+  unfolding search searchLinks
   search-closed =
-      enter-passes w (capacityOf w) q (suc levels) 0 rootPlace rootRegion (going 0 [] nowhere) refl
-      ∙ passAll-closed w (capacityOf w) q searchSpots 0 [] nowhere (omega arith)
-      ∙ rw (zero-add, searchLinks-spots)
+      rw (← zero-add (length (searchFrom w q (suc levels) 0 rootPlace rootRegion)))
+      (enter-closed w (capacityOf w) q (suc levels) 0 rootPlace rootRegion 0 [] nowhere refl (omega arith))
 
   pub search-broken-iff : (search w q ≡ broken) ↔ (brokenBy (capacityOf w) 0 (searchLinks w q) ≡ true)
   search-broken-iff = go (brokenBy (capacityOf w) 0 (searchLinks w q)) search-closed

@@ -5,22 +5,19 @@
 -- Assumes nothing.
 use Prim.Native.Nat.{ℕ}
 use mathlib.Core.Path.{_≡_, refl}
-use mathlib.Core.Bool.{Bool, true, false, _||_}
+use mathlib.Core.Bool.{Bool, true, false}
 use mathlib.Core.List.{List}
 use Rattle.model.specs.declared.Box.{Box}
 use Rattle.model.specs.Interval.{Interval}
 use Rattle.model.specs.Refusal.{Cause, firstFault}
 use Rattle.model.specs.Call.{Request}
 use Rattle.geometry.specs.SearchRange.{rangeOfBox, rangeOfDoors, rangeOfNumber}
+use Rattle.adt.proofs.LinkLaws.{or-left}
 use Rattle.index.specs.Walks.{numberSearch, boxSearch, doorSearch, isBroken, hitsOf}
 use Rattle.index.specs.Causes.{grantBroken, revokeBroken}
 use Rattle.index.specs.LinkCauses.{searchMeets9, searchHits, grantMeets9, revokeMeets9}
 use Rattle.index.specs.Order.{grantOrder, revokeOrder, listOrder, writeOrder}
 use Rattle.index.proofs.LinkCauseLaws.{isBroken-links, hitsOf-links, grantBroken-links, revokeBroken-links}
-
-or-left : (a b : Bool) → (a || b) ≡ false → a ≡ false
-or-left true b e = e
-or-left false b e = refl
 
 grantBroken-search : (w : List ℕ) (r : Request) → grantBroken w r ≡ false → isBroken (numberSearch w (r .number)) ≡ false
 unfolding grantBroken

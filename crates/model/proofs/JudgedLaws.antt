@@ -12,7 +12,7 @@ use mathlib.Core.List.{List, [], _∷_}
 use mathlib.Core.Option.{Option, none, some, Option·some-injective}
 use native.Mathlib.Omega.{arith}
 use Rattle.model.specs.declared.Fault.{Fault}
-use Rattle.model.specs.Answer.{accepted}
+use Rattle.model.specs.Answer.{accepted, refusal}
 use Rattle.model.specs.Refusal.{Cause, Step, firstFault, stepBy, refusing}
 use Rattle.model.specs.Judged.{FirstOf, first-here, first-later, NoneOf, none-end, none-more, Judged}
 use Rattle.model.proofs.AnswerLaws.{refusal-injective, refusal-accepted}
@@ -69,8 +69,10 @@ module _ {S : Type 0} (cs : List Cause) (s : S) (lent : List ℕ) (done : Step S
           }
       go (some g) e =
           record {
-            refuses = λ f.
-                (λ r. fault-firstOf cs f (e ∙ ap some (refusal-injective g f r)), λ r. let same : g ≡ f = Option·some-injective g f (sym e ∙ firstOf-fault r) in rw same);
+            refuses = λ f. (
+              λ r. fault-firstOf cs f (e ∙ ap some (refusal-injective g f r)),
+              λ r. ap refusal (Option·some-injective g f (sym e ∙ firstOf-fault r)),
+            );
             accepts = (λ r. absurd (refusal-accepted g (r .0) (r .1)), λ r. absurd (none-some (sym (noneOf-none r) ∙ e)));
             keeps = λ f r. (refl, refl);
           }
@@ -83,7 +85,8 @@ module _ {S : Type 0} (cs : List Cause) (s : S) (lent : List ℕ) (done : Step S
       go none = kept
       go (some f) = refl
 
-pub judged-same : {S : Type 0} (cs ds : List Cause) (s : S) (lent : List ℕ) (r : Step S) → firstFault cs ≡ firstFault ds → Judged cs s lent r → Judged ds s lent r
+pub judged-same : {S : Type 0} (cs ds : List Cause) (s : S) (lent : List ℕ) (r : Step S) → firstFault cs ≡ firstFault ds
+    → Judged cs s lent r → Judged ds s lent r
 judged-same cs ds s lent r same j =
     record {
       refuses = λ f.
