@@ -9,3 +9,8 @@ pub mod PartLaws
 pub mod PartRegion
 pub mod SearchLaws
 pub mod WayLaws
+pub mod LinkLaws
+pub mod SearchSpots
+pub mod SearchLinks
+pub mod WayLinks
+pub mod RemovalLinks

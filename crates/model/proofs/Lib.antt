@@ -1,2 +1,4 @@
 -- Laws of the model, for the crates above.
 pub mod OverlapLaws
+pub mod AnswerLaws
+pub mod JudgedLaws

@@ -1,0 +1,3 @@
+-- Laws of the calls, for the crates above.
+pub mod LinkCauseLaws
+pub mod OrderLaws
