@@ -1,0 +1,5 @@
+-- Laws of plain lists, for the crates above.
+pub mod TestLaws
+pub mod ElementLaws
+pub mod RangeLaws
+pub mod DistinctLaws

@@ -1,0 +1,2 @@
+-- Laws of the model, for the crates above.
+pub mod OverlapLaws

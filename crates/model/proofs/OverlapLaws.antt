@@ -1,0 +1,29 @@
+-- The tests of specs/Overlap are its conditions.
+--   overlapOn-iff, overlaps-iff     on one range, and on all three
+-- Assumes nothing.
+use mathlib.Core.Logic.{_↔_}
+use mathlib.Core.Bool.{_&&_}
+use lib.Dec.{T}
+use Rattle.lists.proofs.TestLaws.{T-iff, T-and, both-le, le-both}
+use Rattle.model.specs.declared.Box.{Box}
+use Rattle.model.specs.Interval.{Interval}
+use Rattle.model.specs.Box.{staffOf, doorsOf, quartersOf}
+use Rattle.model.specs.Overlap.{OverlapOn, Overlap, overlapOn, overlaps}
+
+pub overlapOn-iff : (a b : Interval) → T (overlapOn a b) ↔ OverlapOn a b
+overlapOn-iff a b = (
+  (λ t. let both = both-le (a .from) (b .to) (b .from) (a .to) (T-iff _ .0 t) in record { starts = both .0; ends = both .1 }),
+  (λ o. T-iff _ .1 (le-both (a .from) (b .to) (b .from) (a .to) (o .starts) (o .ends))),
+)
+
+pub overlaps-iff : (a b : Box) → T (overlaps a b) ↔ Overlap a b
+unfolding overlaps
+overlaps-iff a b =
+    let staff = overlapOn-iff (staffOf a) (staffOf b) in
+    let doors = overlapOn-iff (doorsOf a) (doorsOf b) in
+    let quarters = overlapOn-iff (quartersOf a) (quartersOf b) in
+    let two = T-and (overlapOn (staffOf a) (staffOf b)) (overlapOn (doorsOf a) (doorsOf b)) in
+    let three = T-and (overlapOn (staffOf a) (staffOf b) && overlapOn (doorsOf a) (doorsOf b)) (overlapOn (quartersOf a) (quartersOf b)) in (
+      (λ t. let r = three .0 t in let l = two .0 (r .0) in record { staff = staff .0 (l .0); doors = doors .0 (l .1); quarters = quarters .0 (r .1) }),
+      (λ o. three .1 (two .1 (staff .1 (o .staff), doors .1 (o .doors)), quarters .1 (o .quarters))),
+    )
