@@ -3,3 +3,4 @@ pub mod TestLaws
 pub mod ElementLaws
 pub mod RangeLaws
 pub mod DistinctLaws
+pub mod PermLaws
