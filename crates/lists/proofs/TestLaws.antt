@@ -6,6 +6,7 @@
 --   each-all, all-each       the test of every number below n passes exactly if each one's does
 --   every-all, all-every     the same of the elements of a list
 --   keep-append              what is kept of two lists in a row
+--   keep-map                 of a list that is made from another
 --   mem-keep, keep-mem       an element is kept exactly if it is in the list and passes
 --   keep-none, keep-all      none is kept where none passes, and all where all pass
 --   keep-same                tests that agree on the elements keep the same
@@ -14,7 +15,7 @@ use Prim.Native.Nat.{ℕ, zero, suc, _<_, _≤_}
 use mathlib.Core.Logic.{_↔_}
 use mathlib.Core.Path.{_≡_, refl, sym, ap, _∙_}
 use mathlib.Core.Bool.{Bool, true, false, cond, _&&_, and-eq-true-iff, false≢true}
-use mathlib.Core.List.{List, [], _∷_, _++_, List·Memᴰ, List·Memᴰ·head, List·Memᴰ·tail, List·Memᴰ·not-nil}
+use mathlib.Core.List.{List, [], _∷_, _++_, map, List·Memᴰ, List·Memᴰ·head, List·Memᴰ·tail, List·Memᴰ·not-nil}
 use native.Mathlib.Omega.{arith}
 use native.Mathlib.Decide.{ℕ-discrete}
 use native.Mathlib.Nat.{lt-suc-self}
@@ -111,3 +112,12 @@ pub keep-same : {A : Type 0} (t u : A → Bool) (xs : List A) → ((x : A) → L
 unfolding keep
 keep-same t u [] f = refl
 keep-same {A} t u (x ∷ xs) f = rw (f x (List·Memᴰ·head refl), keep-same t u xs (λ y m. f y (List·Memᴰ·tail m)))
+
+pub keep-map : {A B : Type 0} (t : B → Bool) (f : A → B) (xs : List A) → keep t (map f xs) ≡ map f (keep (λ x. t (f x)) xs)
+unfolding keep
+keep-map t f [] = refl
+keep-map {A} {B} t f (x ∷ xs) = go (t (f x)) (keep (λ y. t (f y)) xs) (keep-map t f xs)
+  where
+    go : (b : Bool) {ys : List B} (zs : List A) → ys ≡ map f zs → cond b (f x ∷ ys) ys ≡ map f (cond b (x ∷ zs) zs)
+    go true zs e = ap (λ (l : List B). f x ∷ l) e
+    go false zs e = e
