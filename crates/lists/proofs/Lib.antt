@@ -4,3 +4,4 @@ pub mod ElementLaws
 pub mod RangeLaws
 pub mod DistinctLaws
 pub mod PermLaws
+pub mod CountLaws

@@ -1,18 +1,19 @@
 -- Lists of the same elements in another order.
 --   Put x xs ys                          ys is xs with x put somewhere
 --   Perm xs ys                           ys is xs in some order
---   put-mem, mem-put                     the elements of ys are those of xs, and x
+--   put-mem, put-here, mem-put           the elements of ys are those of xs, and x
 --   put-append-left, put-append-right    put in a part of a list
 --   put-seam                             put between two parts
 --   put-put                              of two that are put, either may be put first
 --   put-map, length-put, distinct-put, put-distinct
 --   perm-refl, perm-sym, perm-trans      Perm is an equivalence
---   perm-mem, perm-append, perm-map, length-perm, perm-distinct
+--   put-perm, perm-swap, perm-append     one put first; two parts exchanged; a part in another order
+--   perm-mem, perm-map, length-perm, perm-distinct
 -- Assumes nothing.
 use Prim.Native.Nat.{suc}
 use mathlib.Core.Logic.{_⊎_, inl, inr}
 use mathlib.Core.Path.{_≡_, refl, sym, ap, _∙_}
-use mathlib.Core.List.{List, [], _∷_, _++_, map, List·Memᴰ, List·Memᴰ·head, List·Memᴰ·tail, Memᴰ·cast}
+use mathlib.Core.List.{List, [], _∷_, _++_, map, append-nil, List·Memᴰ, List·Memᴰ·head, List·Memᴰ·tail, Memᴰ·cast}
 use lib.ListN.{length}
 use Rattle.lists.proofs.DistinctLaws.{Distinct, distinct-more}
 
@@ -120,6 +121,10 @@ module _ {A : Type 0} where
   pub perm-append : {xs ys : List A} (zs : List A) → Perm xs ys → Perm (xs ++ zs) (ys ++ zs)
   perm-append zs perm-none = perm-refl zs
   perm-append zs (perm-more p r) = perm-more (perm-append zs p) (put-append-left zs r)
+
+  pub perm-swap : (xs ys : List A) → Perm (xs ++ ys) (ys ++ xs)
+  perm-swap [] ys = rw append-nil (perm-refl ys)
+  perm-swap (x ∷ xs) ys = perm-more (perm-swap xs ys) (put-seam ys xs)
 
   pub length-perm : {xs ys : List A} → Perm xs ys → length ys ≡ length xs
   length-perm perm-none = refl
