@@ -76,7 +76,7 @@ unfolding exchanged
 exchanged-same part-here = refl
 exchanged-same (part-son {k = k} {l = l} {r = r} s p) = rw (exchanged-same p) (withSon-same s k l r)
 
-withSon-cells : (s : Side) (k : ℕ) (l r x : Tree) → Perm (cellsOf x ++ (k ∷ cellsOf (son (other s) l r))) (cellsOf (withSon s k l r x))
+pub withSon-cells : (s : Side) (k : ℕ) (l r x : Tree) → Perm (cellsOf x ++ (k ∷ cellsOf (son (other s) l r))) (cellsOf (withSon s k l r x))
 unfolding cellsOf
 withSon-cells Left k l r x = perm-sym (put-perm (put-seam (cellsOf x) (cellsOf r)))
 withSon-cells Right k l r x =
@@ -114,6 +114,11 @@ pub part-link : {n at m link : ℕ} {t u : Tree} (p : Part n at t m link u) → 
 unfolding outside
 part-link part-here = inl refl
 part-link (part-son {k = k} {l = l} {r = r} s p) = inr (link-son s k (outside p) (cellsOf (son (other s) l r)) (part-link p))
+
+-- below a son it is such a link
+pub part-son-link : {n m link : ℕ} {u : Tree} (s : Side) (k : ℕ) (l r : Tree) (p : Part n (linkPlace k s) (son s l r) m link u)
+    → LinkOf (outside p ++ (k ∷ cellsOf (son (other s) l r))) link
+part-son-link s k l r p = link-son s k (outside p) (cellsOf (son (other s) l r)) (part-link p)
 
 -- a cell that is not outside of it is away from the place
 pub part-away : {c n at m link : ℕ} {t u : Tree} (p : Part n at t m link u) (k : ℕ) → Away at k → 0 < k → Upto c (outside p) → ¬ List·Memᴰ k (outside p) → Away link k
@@ -157,12 +162,18 @@ kept-son {c = c} s k below beside h =
     }
 
 -- a node with one son anew
-spells-withSon : {v : List ℕ} {c n k : ℕ} {g : Region} (s : Side) (l r x : Tree) → 0 < k → k ≤ c → inside g (pointAt v k) ≡ true
+pub spells-withSon : {v : List ℕ} {c n k : ℕ} {g : Region} (s : Side) (l r x : Tree) → 0 < k → k ≤ c → inside g (pointAt v k) ≡ true
     → Spells v c n (half s g (axisOf (levels - n))) (getD v (linkPlace k s) 0) x
     → Spells v c n (half (other s) g (axisOf (levels - n))) (getD v (linkPlace k (other s)) 0) (son (other s) l r)
     → Spells v c (suc n) g k (withSon s k l r x)
 spells-withSon Left l r x pos le i a b = spells-node pos le i a b
 spells-withSon Right l r x pos le i a b = spells-node pos le i b a
+
+pub spells-parts : {v : List ℕ} {c n j : ℕ} {g : Region} (s : Side) (k : ℕ) (l r x : Tree) → Spells v c (suc n) g j (withSon s k l r x)
+    → Spells v c n (half s g (axisOf (levels - n))) (getD v (linkPlace k s) 0) x
+    × Spells v c n (half (other s) g (axisOf (levels - n))) (getD v (linkPlace k (other s)) 0) (son (other s) l r)
+spells-parts Left k l r x sp = (spells-son Left sp, spells-son Right sp)
+spells-parts Right k l r x sp = (spells-son Right sp, spells-son Left sp)
 
 -- the first cell of a spelled tree
 pub record Cell (w : List ℕ) (c j k : ℕ) (g : Region) : Type 0 where
@@ -217,7 +228,7 @@ exchanged-spells {w} {v} {c} {at = at} {link = link} {g = g} (part-son {n = n} {
     let first = spells-cell sp in
     let here : List·Memᴰ k (outside p ++ (k ∷ beside)) = Memᴰ·append-right (outside p) (List·Memᴰ·head refl) in
     let away = beside-away s k (outside p) beside (kept .distinct) (kept .upto) (part-link p) in
-    let top : getD v at 0 ≡ k = kept .top (kept-proper kept (link-son s k (outside p) beside (part-link p))) ∙ e ∙ first .link in
+    let top : getD v at 0 ≡ k = kept .top (kept-proper kept (part-son-link s k l r p)) ∙ e ∙ first .link in
     let side : getD v (linkPlace k (other s)) 0 ≡ getD w (linkPlace k (other s)) 0 =
     kept .same k here .links (other s) (opposite-away s k (outside p) beside (kept .distinct) (kept .upto) (part-link p)) in
     rw top

@@ -8,3 +8,6 @@ pub mod FreshLaws
 pub mod ExchangeLaws
 pub mod Linked
 pub mod InsertLaws
+pub mod FollowLaws
+pub mod UnlinkLaws
+pub mod RemoveLaws
