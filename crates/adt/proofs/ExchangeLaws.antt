@@ -1,6 +1,4 @@
 -- A part of a tree exchanged for another tree.
---   regionIn p g            the region of the part p, where the whole has the region g
---   region-shape, region-spells     it has the shape, and the part's link spells the part there
 --   exchanged p x           the tree with x in place of the part
 --   outside p               the cells outside of the part
 --   exchanged-same          a part in its own place
@@ -25,13 +23,12 @@ use Rattle.geometry.specs.Axis.{axisOf}
 use Rattle.geometry.specs.Levels.{levels}
 use Rattle.geometry.specs.Region.{Region, half}
 use Rattle.geometry.specs.Point.{inside}
-use Rattle.geometry.proofs.AxisLaws.{axis-lt}
-use Rattle.geometry.proofs.RegionLaws.{Shape, half-shape}
 use Rattle.pool.specs.Cell.{grantAt}
 use Rattle.adt.specs.Node.{linkPlace, pointAt}
 use Rattle.adt.proofs.Spells.{Tree, node, cellsOf, Spells, spells-node}
 use Rattle.adt.proofs.TreeLaws.{son, spells-son}
 use Rattle.adt.proofs.PartLaws.{Part, part-here, part-son}
+use Rattle.adt.proofs.PartRegion.{regionIn}
 use Rattle.adt.proofs.NodeLaws.{link-injective, Away, LinkOf, link-more, link-away, Hook, hook-link}
 use Rattle.adt.proofs.FrameLaws.{inside-same, spells-frame}
 
@@ -44,10 +41,6 @@ abbrev pub withSon : Side → ℕ → Tree → Tree → Tree → Tree
 withSon Left k l r x = node k x r
 withSon Right k l r x = node k l x
 
-unfoldable pub regionIn : {n at m link : ℕ} {t u : Tree} → Part n at t m link u → Region → Region
-regionIn part-here g = g
-regionIn (part-son {n = n} s p) g = regionIn p (half s g (axisOf (levels - n)))
-
 unfoldable pub exchanged : {n at m link : ℕ} {t u : Tree} → Part n at t m link u → Tree → Tree
 exchanged part-here x = x
 exchanged (part-son {k = k} {l = l} {r = r} s p) x = withSon s k l r (exchanged p x)
@@ -55,17 +48,6 @@ exchanged (part-son {k = k} {l = l} {r = r} s p) x = withSon s k l r (exchanged 
 unfoldable pub outside : {n at m link : ℕ} {t u : Tree} → Part n at t m link u → List ℕ
 outside part-here = []
 outside (part-son {k = k} {l = l} {r = r} s p) = outside p ++ (k ∷ cellsOf (son (other s) l r))
-
-pub region-shape : {n at m link : ℕ} {t u : Tree} {g : Region} (p : Part n at t m link u) → Shape g → Shape (regionIn p g)
-unfolding regionIn
-region-shape part-here v = v
-region-shape {g = g} (part-son {n = n} s p) v = region-shape p (half-shape s g (axisOf (levels - n)) v (axis-lt (levels - n)))
-
-pub region-spells : {w : List ℕ} {c n at m link k : ℕ} {g : Region} {t u : Tree} (p : Part n at t m link u) → getD w at 0 ≡ k → Spells w c n g k t
-    → Spells w c m (regionIn p g) (getD w link 0) u
-unfolding regionIn
-region-spells part-here e x = rw e x
-region-spells (part-son s p) e x = region-spells p refl (spells-son s x)
 
 withSon-same : (s : Side) (k : ℕ) (l r : Tree) → withSon s k l r (son s l r) ≡ node k l r
 withSon-same Left k l r = refl

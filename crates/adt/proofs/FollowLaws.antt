@@ -21,7 +21,8 @@ use Rattle.adt.specs.Remove.{terminal, nextLink, follow, terminalFrom}
 use Rattle.adt.proofs.Spells.{Tree, blank, node, cellsOf, size, Spells, spells-blank, spells-node}
 use Rattle.adt.proofs.TreeLaws.{son, spells-son, cells-size}
 use Rattle.adt.proofs.PartLaws.{Part, part-here, part-son, HangsAt, hangs-below}
-use Rattle.adt.proofs.ExchangeLaws.{outside, part-outside, region-spells, spells-cell}
+use Rattle.adt.proofs.PartRegion.{region-spells}
+use Rattle.adt.proofs.ExchangeLaws.{outside, part-outside, spells-cell}
 use Rattle.adt.proofs.Linked.{Linked, linked-count, linked-capacity}
 
 -- where the walk goes on from a cell: nowhere, or to its son on a side

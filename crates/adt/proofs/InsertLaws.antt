@@ -39,7 +39,8 @@ use Rattle.adt.proofs.TreeLaws.{son, spells-son}
 use Rattle.adt.proofs.PartLaws.{Part, part-here, part-son}
 use Rattle.adt.proofs.NodeLaws.{Away, root-away, other-away, Hook, hook-root, hook-link, hook-within, hook-header, field-set-hook, hook-withCell}
 use Rattle.adt.proofs.FrameLaws.{chain-frame}
-use Rattle.adt.proofs.ExchangeLaws.{regionIn, exchanged, outside, exchanged-same, exchanged-put, part-outside, part-away, part-hook, Kept, exchanged-spells}
+use Rattle.adt.proofs.PartRegion.{regionIn}
+use Rattle.adt.proofs.ExchangeLaws.{exchanged, outside, exchanged-same, exchanged-put, part-outside, part-away, part-hook, Kept, exchanged-spells}
 use Rattle.adt.proofs.Linked.{Linked, linked-distinct, linked-upto, linked-capacity}
 
 pub record BlankPart (p : List ℕ) (n at : ℕ) (t : Tree) (g : Region) (link : ℕ) : Type 0 where

@@ -32,7 +32,8 @@ use Rattle.adt.proofs.Spells.{Tree, blank, node, cellsOf, Spells, FreeC
 use Rattle.adt.proofs.PartLaws.{Part, HangsAt}
 use Rattle.adt.proofs.NodeLaws.{Away, root-away, other-away, Hook, hook-root, hook-link, hook-header, hook-withCell}
 use Rattle.adt.proofs.FrameLaws.{spells-frame, chain-frame}
-use Rattle.adt.proofs.ExchangeLaws.{regionIn, region-shape, region-spells, spells-cell, exchanged, outside, exchanged-cells, part-outside, part-away, part-hook, Kept, exchanged-spells}
+use Rattle.adt.proofs.PartRegion.{regionIn, region-shape, region-spells}
+use Rattle.adt.proofs.ExchangeLaws.{spells-cell, exchanged, outside, exchanged-cells, part-outside, part-away, part-hook, Kept, exchanged-spells}
 use Rattle.adt.proofs.Linked.{Linked, linked-distinct, linked-upto}
 use Rattle.adt.proofs.FollowLaws.{terminalFrom-ends, terminalFrom-terminal}
 use Rattle.adt.proofs.UnlinkLaws.{Unlinked, unlinked-part}

@@ -5,3 +5,4 @@ pub mod Insert
 pub mod Remove
 pub mod Links
 pub mod Reach
+pub mod SearchMemory

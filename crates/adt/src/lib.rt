@@ -1,2 +1,4 @@
 // The alternating digital tree over a pool of words (document 01, "The tree"; source 001).
-// What its walks do on any words stands in specs/. No function yet.
+// A walk that meets a cause of fault 9 stops there and says so; nothing is written before it is done.
+pub mod node;
+pub mod search;

@@ -1,4 +1,7 @@
--- Laws of regions, points and search ranges, for the crates above.
+-- Laws of points and regions, for the crates above.
+pub mod HalfLaws
 pub mod AxisLaws
 pub mod RegionLaws
+pub mod PointLaws
+pub mod LevelLaws
 pub mod SearchRangeLaws

@@ -1,5 +1,4 @@
 -- Laws of regions, over any axis and either side. Nothing here names an axis or a width.
---   Shape g                      the region has a row of two ends for every axis
 --   Spans g a x, Shares r q a    a coordinate between the ends; two regions with a coordinate in common on the axis
 --   inside-ends, ends-inside     the test of a point as orders of its coordinates
 --   meets-ends, ends-meets       the test of two regions as orders of their ends
@@ -32,13 +31,9 @@ use Rattle.geometry.specs.declared.Side.{Side}
 use Rattle.geometry.specs.declared.Side.the-variants.{Left, Right}
 use Rattle.geometry.specs.Axis.{axes}
 use Rattle.geometry.specs.Width.{topOf}
+pub use Rattle.geometry.specs.Region.{Shape}
 use Rattle.geometry.specs.Region.{Region, free, rootRegion, low, high, middle, sideOf, half, meetsOn, meets}
 use Rattle.geometry.specs.Point.{insideOn, inside}
-
--- a row of a low and a high for every axis
-pub record Shape (g : Region) : Type 0 where
-  pub rows : length g ≡ axes
-  pub ends : (a : ℕ) → a < axes → length (getD g a []) ≡ 2
 
 -- x lies between the ends on the axis; both count
 pub record Spans (g : Region) (a x : ℕ) : Type 0 where

@@ -1,4 +1,5 @@
 -- Regions (document 01, "The tree"): seven ranges, each a low and a high, both of it. Search ranges have the same form.
+--   Shape r               r has seven ranges of two numbers each
 --   low r a, high r a     the ends on an axis
 --   rootRegion            all of every axis
 --   middle r a            where the axis is parted: the last coordinate of the lower half
@@ -7,11 +8,12 @@
 --   meetsOn r q a, meets r q   the two share a coordinate on the axis, and on every axis
 -- Source 001's (2b) names the left son's low where the right son's is meant; (3) is half-open, so its end is one above `high`.
 -- Assumes nothing: these are definitions.
-use Prim.Native.Nat.{ℕ, _+_, _/_}
+use Prim.Native.Nat.{ℕ, _+_, _/_, _<_}
+use mathlib.Core.Path.{_≡_}
 use mathlib.Core.Bool.{Bool, cond, _&&_}
 use mathlib.Core.List.{List, [], _∷_, map}
 use lib.Dec.{leb}
-use lib.ListN.{getD, set}
+use lib.ListN.{length, getD, set}
 use Rattle.lists.specs.Tests.{each}
 use Rattle.lists.specs.Ranges.{countFrom}
 use Rattle.geometry.specs.declared.Side.{Side}
@@ -21,6 +23,10 @@ use Rattle.geometry.specs.Width.{topOf}
 
 abbrev pub Region : Type 0
 Region = List (List ℕ)
+
+pub record Shape (r : Region) : Type 0 where
+  pub rows : length r ≡ axes
+  pub ends : (a : ℕ) → a < axes → length (getD r a []) ≡ 2
 
 -- one range
 abbrev pub range : ℕ → ℕ → List ℕ

@@ -1,4 +1,5 @@
 -- Laws of plain lists, for the crates above.
+pub mod EachLaws
 pub mod TestLaws
 pub mod ElementLaws
 pub mod RangeLaws

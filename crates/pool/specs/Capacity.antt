@@ -3,9 +3,10 @@
 --   capacityOf w      C, from the length of w
 --   wrongLength w     fault 1: the pool's length is not as above
 --   wrongPool w       fault 1, except in start and load: that, or the first word is not its C
+--   lengthCapacity w, poolCapacity w   C, or 0 where the pool is refused: what the program goes by
 -- Assumes nothing: these are definitions.
 use Prim.Native.Nat.{ℕ, _+_, _-_, _*_, _/_}
-use mathlib.Core.Bool.{Bool, not, _&&_, _||_}
+use mathlib.Core.Bool.{Bool, not, cond, _&&_, _||_}
 use mathlib.Core.List.{List}
 use lib.Dec.{leb, eqb}
 use lib.ListN.{length, getD}
@@ -23,3 +24,9 @@ wrongLength w = let c = capacityOf w in not (leb 1 c && leb c maxGrants && eqb (
 
 unfoldable pub wrongPool : List ℕ → Bool
 wrongPool w = wrongLength w || not (eqb (getD w capacityPlace 0) (capacityOf w))
+
+abbrev pub lengthCapacity : List ℕ → ℕ
+lengthCapacity w = cond (wrongLength w) 0 (capacityOf w)
+
+abbrev pub poolCapacity : List ℕ → ℕ
+poolCapacity w = cond (wrongPool w) 0 (capacityOf w)

@@ -1,0 +1,55 @@
+-- The start of a search, at the root, from memory in which nothing is met or found.
+--   fresh-counted, fresh-state                            what that memory stands for
+--   search-blank, search-apart, search-above, search-visits   the tests at the root
+-- Assumes nothing.
+use Prim.Native.Nat.{ℕ, suc, _-_, _<_, _≤_}
+use mathlib.Core.Path.{_≡_, refl, sym, ap, subst, _∙_}
+use mathlib.Core.Bool.{true, false}
+use mathlib.Core.List.{List, []}
+use native.Mathlib.Omega.{arith}
+use lib.Dec.{lit≤}
+use lib.ListN.{length, getD, replicate}
+use Rattle.geometry.specs.Levels.{levels}
+use Rattle.geometry.specs.Region.{Region, rootRegion, meets}
+use Rattle.pool.specs.Layout.{rootPlace}
+use Rattle.pool.specs.Capacity.{capacityOf}
+use Rattle.pool.proofs.CapacityLaws.{capacityOf-poolLength}
+use Rattle.adt.specs.Search.{Spot, nowhere, Search, broken, going, visitBy, enter, search}
+use Rattle.adt.specs.SearchMemory.{searchIn, Counted, Fresh, Stands}
+use Rattle.adt.proofs.EnterSteps.{enter-blank, enter-apart, enter-above, enter-visits}
+
+module _ {w : List ℕ} {c : ℕ} {h t : List ℕ} (q : Region) (fresh : Fresh w c h t) where
+  pub fresh-counted : Counted c h t
+  fresh-counted =
+      subst (Counted c h) (sym (fresh .unused)) (record { hit-room = fresh .hit-room; tally-room = refl; found-met = omega arith; met-cells = omega arith })
+
+  pub fresh-state : searchIn true h t ≡ going 0 [] nowhere
+  fresh-state = rw (fresh .unused)
+
+  search-enters : search w q ≡ enter w c q (suc levels) rootPlace rootRegion (going 0 [] nowhere)
+  unfolding search
+  search-enters = rw (capacityOf-poolLength w c (fresh .long))
+
+  module _ (k : ℕ) (e : k ≡ getD w rootPlace 0) where
+    pub search-blank : k ≡ 0 → Stands c true h t (search w q)
+    search-blank z = record { counted = fresh-counted; state = fresh-state ∙ enter-blank w c q (suc levels) rootPlace k rootRegion e 0 [] nowhere z ∙ sym search-enters }
+
+    module _ (nz : ¬ (k ≡ 0)) where
+      deep : ¬ (suc levels ≡ 0)
+      deep z = omega arith
+
+      pub search-apart : meets rootRegion q ≡ false → Stands c true h t (search w q)
+      search-apart m = record {
+        counted = fresh-counted;
+        state = fresh-state ∙ enter-apart w c q (suc levels) rootPlace k rootRegion e 0 [] nowhere nz deep m ∙ sym search-enters;
+      }
+
+      pub search-above : meets rootRegion q ≡ true → c < k → Stands c false h t (search w q)
+      search-above m a = record {
+        counted = fresh-counted;
+        state = enter-above w c q (suc levels) rootPlace k rootRegion e 0 [] nowhere nz deep m a ∙ sym search-enters;
+      }
+
+      pub search-visits : {g : Region} → g ≡ rootRegion → meets rootRegion q ≡ true → k ≤ c
+          → visitBy w c q (enter w c q levels) (record { level = 0; link = rootPlace }) k g (searchIn true h t) ≡ search w q
+      search-visits i m a = rw fresh-state (enter-visits w c q (suc levels) rootPlace k rootRegion e 0 [] nowhere nz deep i m a ∙ sym search-enters)

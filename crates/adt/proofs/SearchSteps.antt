@@ -1,0 +1,106 @@
+-- A step of the search on the memory that stands for its state: what `test` leaves, case by case.
+--   test-full       every cell has been met before
+--   test-outside    the point lies outside the range
+--   test-later      a hit that is not the first
+--   test-first      the first hit
+-- Assumes nothing.
+use Prim.Native.Nat.{ℕ, zero, suc, _+_, _<_, _≤_}
+use mathlib.Core.Path.{_≡_, refl, sym, ap, _∙_}
+use mathlib.Core.Bool.{Bool, true, false, cond}
+use mathlib.Core.List.{List, [], _∷_, _++_}
+use native.Mathlib.Numerals.{add-one}
+use native.Mathlib.Omega.{arith}
+use lib.ListN.{length, take, getD, set, length-set}
+use lib.Seq.{take-suc-set}
+use borrow.Author.Tests.{lt-ltb, le-ltb}
+use Rattle.geometry.specs.Region.{Region}
+use Rattle.geometry.specs.Point.{inside}
+use Rattle.model.specs.Limits.{maxGrants}
+use Rattle.adt.specs.Node.{pointAt}
+use Rattle.adt.specs.Search.{Spot, Search, broken, going, firstSpot, meet}
+use Rattle.adt.specs.SearchMemory.{metIn, foundIn, searchIn, Counted, Stands}
+
+-- a fact about four numbers is one about every list of length 4
+four : (P : List ℕ → Type 0) → ((a b d e : ℕ) → P (a ∷ b ∷ d ∷ e ∷ [])) → (t : List ℕ) → length t ≡ 4 → P t
+four P f [] n = absurd (omega arith)
+four P f (a ∷ []) n = absurd (omega arith)
+four P f (a ∷ b ∷ []) n = absurd (omega arith)
+four P f (a ∷ b ∷ d ∷ []) n = absurd (omega arith)
+four P f (a ∷ b ∷ d ∷ e ∷ []) n = f a b d e
+four P f (a ∷ b ∷ d ∷ e ∷ x ∷ t) n = absurd (omega arith)
+
+take-some : (f : ℕ) (h : List ℕ) → 0 < f → 0 < length h → (x : ℕ) × (xs : List ℕ) × (take f h ≡ x ∷ xs)
+take-some zero h p n = absurd (omega arith)
+take-some (suc f) [] p n = absurd (omega arith)
+take-some (suc f) (x ∷ xs) p n = (x, take f xs, refl)
+
+later-spot : (f : ℕ) (h : List ℕ) (before here : Spot) → 0 < f → 0 < length h → firstSpot (take f h) before here ≡ before
+later-spot f h before here p n = let t = take-some f h p n in rw (t .2)
+
+module _ (w : List ℕ) (c : ℕ) (q : Region) (here : Spot) (k : ℕ) (h : List ℕ) (few : c ≤ maxGrants) where
+  pub test-full : (t : List ℕ) → Counted c h t → c ≤ metIn t → Stands c false h t (meet w c q here k (searchIn true h t))
+  unfolding meet
+  test-full t n full = record { counted = n; state = rw (le-ltb (metIn t) c full) }
+
+  module _ (met : ℕ) (lt : met < c) where
+    pub test-outside : (t : List ℕ) → Counted c h t → met ≡ metIn t → inside q (pointAt w k) ≡ false
+        → Stands c true h (set t 0 (met + 1)) (meet w c q here k (searchIn true h t))
+    unfolding meet
+    test-outside t n e out = four P go t (n .tally-room) n e
+      where
+        P : List ℕ → Type 0
+        P t = Counted c h t → met ≡ metIn t → Stands c true h (set t 0 (met + 1)) (meet w c q here k (searchIn true h t))
+
+        go : (a b d e : ℕ) → P (a ∷ b ∷ d ∷ e ∷ [])
+        go a b d e n i = record {
+          counted = record { hit-room = n .hit-room; tally-room = refl; found-met = omega (arith, n .found-met); met-cells = omega arith };
+          state = rw (← i, lt-ltb met c lt, out, add-one met);
+        }
+
+    module _ (found : ℕ) (hit : inside q (pointAt w k) ≡ true) where
+      pub test-later : (t : List ℕ) → Counted c h t → met ≡ metIn t → found ≡ foundIn t → 0 < found
+          → Stands c true (set h found k) (set (set t 0 (met + 1)) 1 (found + 1)) (meet w c q here k (searchIn true h t))
+      unfolding meet
+      test-later t n em ef pos = four P go t (n .tally-room) n em ef
+        where
+          P : List ℕ → Type 0
+          P t = Counted c h t → met ≡ metIn t → found ≡ foundIn t
+              → Stands c true (set h found k) (set (set t 0 (met + 1)) 1 (found + 1)) (meet w c q here k (searchIn true h t))
+
+          go : (a b d e : ℕ) → P (a ∷ b ∷ d ∷ e ∷ [])
+          go a b d e n i j = record {
+            counted =
+                record {
+                  hit-room = length-set h found k ∙ n .hit-room;
+                  tally-room = refl;
+                  found-met = omega (arith, n .found-met);
+                  met-cells = omega arith;
+                };
+            state =
+                rw (← i, ← j, lt-ltb met c lt, hit, later-spot found h (record { level = d; link = e }) here pos (omega (arith, n .hit-room)), add-one met, add-one found, take-suc-set h found k (omega (arith, n .hit-room, n .found-met)));
+          }
+
+      pub test-first : (t : List ℕ) → Counted c h t → met ≡ metIn t → found ≡ foundIn t → found ≤ 0
+          → Stands c true (set h found k) (set (set (set (set t 0 (met + 1)) 1 (found + 1)) 2 (here .level)) 3 (here .link))
+          (meet w c q here k (searchIn true h t))
+      unfolding meet
+      test-first t n em ef z = four P go t (n .tally-room) n em ef
+        where
+          P : List ℕ → Type 0
+          P t = Counted c h t → met ≡ metIn t → found ≡ foundIn t
+              → Stands c true (set h found k) (set (set (set (set t 0 (met + 1)) 1 (found + 1)) 2 (here .level)) 3 (here .link))
+              (meet w c q here k (searchIn true h t))
+
+          go : (a b d e : ℕ) → P (a ∷ b ∷ d ∷ e ∷ [])
+          go a b d e n i j = record {
+            counted =
+                record {
+                  hit-room = length-set h found k ∙ n .hit-room;
+                  tally-room = refl;
+                  found-met = omega (arith, n .found-met);
+                  met-cells = omega arith;
+                };
+            state =
+                let y : found ≡ 0 = omega arith in
+                rw (← i, ← j, y, lt-ltb met c lt, hit, add-one met, take-suc-set h 0 k (omega (arith, n .hit-room)));
+          }

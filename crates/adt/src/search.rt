@@ -1,0 +1,185 @@
+// The search: source 001's three steps. `visit` tests a cell and enters its two subtrees; `enter` tests a subtree's region against
+// the range and visits its cell. The levels remaining fall. A search that meets a cause of fault 9 answers false at once.
+ghost use mathlib.Core.Path.{_≡_};
+ghost use mathlib.Core.Bool.{true};
+ghost use Prim.Native.Nat.{_-_, _<_, _≤_};
+ghost use lib.ListN.{length};
+ghost use Rattle.geometry.specs.Axis.{axes, axisOf};
+ghost use Rattle.geometry.specs.Levels.{levels};
+ghost use Rattle.geometry.specs.Region.{Shape, half, meets};
+ghost use Rattle.adt.specs.Search.{meet, visitBy, enter, search};
+ghost use Rattle.adt.specs.SearchMemory.{searchIn, Fresh, Ready, Stands};
+use crate::node::point_at;
+use crate::node::wide;
+use geometry::Side;
+use geometry::axis::LEVELS;
+use geometry::axis::axis_of;
+use geometry::region::half_meets;
+use geometry::region::halve;
+use geometry::region::is_inside;
+use geometry::region::meets_range;
+use geometry::region::root_region;
+use pool::Field;
+use pool::layout::ROOT;
+use pool::layout::place_of;
+
+// The places of a search's tally: the cells met, the hits found, and of the first hit its level and the place of the link it hangs on.
+const MET: usize = 0;
+
+const FOUND: usize = 1;
+
+const LEVEL: usize = 2;
+
+const LINK: usize = 3;
+
+// Counts the cell k as met, and keeps it if its point lies in the range; false where all cells have been met before.
+fn test(
+    pool: &[u16],
+    cells: usize,
+    k: usize,
+    level: usize,
+    link: usize,
+    range: &[[u16; 2]; 7],
+    hits: &mut [u16; 2048],
+    tally: &mut [usize; 4],
+) -> bool
+    requires { ⌜ Ready (now pool) cells (now hits) (now tally) × (0 < k) × (k ≤ cells) ⌝ }
+    ensures { λ r. ⌜ Stands cells r (now (hits .exit)) (now (tally .exit)) (meet (now (pool .entry)) cells (now (range .entry)) (record { level = level; link = link }) k (searchIn true (now (hits .entry)) (now (tally .entry)))) ⌝ }
+{
+    let met = tally[MET];
+    let found = tally[FOUND];
+    if cells <= met {
+        return false;
+    }
+    tally[MET] = met + 1;
+    if !is_inside(range, point_at(pool, k)) {
+        return true;
+    }
+    tally[FOUND] = found + 1;
+    hits[found] = k as u16;
+    if 0 < found {
+        return true;
+    }
+    tally[LEVEL] = level;
+    tally[LINK] = link;
+    true
+}
+
+// Tests the cell k, which hangs at the link's place with a number of levels below it, then enters its left and its right subtree.
+fn visit(
+    pool: &[u16],
+    cells: usize,
+    below: usize,
+    k: usize,
+    link: usize,
+    region: [[u16; 2]; 7],
+    range: &[[u16; 2]; 7],
+    hits: &mut [u16; 2048],
+    tally: &mut [usize; 4],
+) -> bool
+    requires { ⌜ Ready (now pool) cells (now hits) (now tally) × (below ≤ levels) × (0 < k) × (k ≤ cells) × Shape region × (meets region (now range) ≡ true) ⌝ }
+    ensures { λ r. ⌜ Stands cells r (now (hits .exit)) (now (tally .exit)) (visitBy (now (pool .entry)) cells (now (range .entry)) (enter (now (pool .entry)) cells (now (range .entry)) below) (record { level = levels - below; link = link }) k region (searchIn true (now (hits .entry)) (now (tally .entry)))) ⌝ }
+{
+    let level = LEVELS - below;
+    let axis = axis_of(level);
+    if !test(pool, cells, k, level, link, range, hits, tally) {
+        return false;
+    }
+    let left = place_of(k, Field::Left);
+    if !enter(
+        pool,
+        cells,
+        below,
+        left,
+        Side::Left,
+        axis,
+        region,
+        range,
+        hits,
+        tally,
+    ) {
+        return false;
+    }
+    let right = place_of(k, Field::Right);
+    enter(
+        pool,
+        cells,
+        below,
+        right,
+        Side::Right,
+        axis,
+        region,
+        range,
+        hits,
+        tally,
+    )
+}
+
+// Goes through the link at a place to the son on a side, if it leads to a cell and the half of the father's region there meets the
+// range. Only the axis that is halved is tested: the father's region met the range.
+fn enter(
+    pool: &[u16],
+    cells: usize,
+    below: usize,
+    link: usize,
+    side: Side,
+    axis: usize,
+    region: [[u16; 2]; 7],
+    range: &[[u16; 2]; 7],
+    hits: &mut [u16; 2048],
+    tally: &mut [usize; 4],
+) -> bool
+    requires { ⌜ Ready (now pool) cells (now hits) (now tally) × (below ≤ levels) × (link < length (now pool)) × (axis < axes) × Shape region × (meets region (now range) ≡ true) ⌝ }
+    ensures { λ r. ⌜ Stands cells r (now (hits .exit)) (now (tally .exit)) (enter (now (pool .entry)) cells (now (range .entry)) below link (half side region axis) (searchIn true (now (hits .entry)) (now (tally .entry)))) ⌝ }
+{
+    let k = wide(pool[link]);
+    if k == 0 {
+        return true;
+    }
+    if below == 0 {
+        return false;
+    }
+    if !half_meets(side, &region, axis, range) {
+        return true;
+    }
+    if cells < k {
+        return false;
+    }
+    visit(
+        pool,
+        cells,
+        below - 1,
+        k,
+        link,
+        halve(side, region, axis),
+        range,
+        hits,
+        tally,
+    )
+}
+
+// Searches the tree for the cells whose points lie in the range. Leaves them in `hits`, in the order of the search, and in `tally` how many
+// there are, with the first one's level and the place of its link. False where the walk met a cause of fault 9.
+pub fn search(
+    pool: &[u16],
+    cells: usize,
+    range: &[[u16; 2]; 7],
+    hits: &mut [u16; 2048],
+    tally: &mut [usize; 4],
+) -> bool
+    requires { ⌜ Fresh (now pool) cells (now hits) (now tally) ⌝ }
+    ensures { λ r. ⌜ Stands cells r (now (hits .exit)) (now (tally .exit)) (search (now (pool .entry)) (now (range .entry))) ⌝ }
+{
+    let k = wide(pool[ROOT]);
+    if k == 0 {
+        return true;
+    }
+    let region = root_region();
+    if !meets_range(&region, range) {
+        return true;
+    }
+    if cells < k {
+        return false;
+    }
+    visit(pool, cells, LEVELS, k, ROOT, region, range, hits, tally)
+}

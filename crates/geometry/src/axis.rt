@@ -1,0 +1,17 @@
+// The axes, the levels and the width of a coordinate. Each is named here alone; specs/Axis, Levels and Width say the same.
+ghost use mathlib.Core.Path.{_≡_};
+ghost use Rattle.geometry.specs.Axis.{axes, axisOf};
+ghost use Prim.Native.Nat.{_<_};
+
+pub const AXES: usize = 7;
+
+pub const LEVELS: usize = 112;
+
+pub const TOP: u16 = 65535;
+
+// The axis that a level halves.
+pub fn axis_of(level: usize) -> usize
+    ensures { λ r. ⌜ (r ≡ axisOf level) × (r < axes) ⌝ }
+{
+    level % AXES
+}

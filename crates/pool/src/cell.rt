@@ -1,0 +1,104 @@
+// What a cell carries: read whole as a grant, stored whole as a node without sons or as a free cell.
+ghost use mathlib.Core.Path.{_≡_};
+ghost use Prim.Native.Nat.{_<_, _≤_};
+ghost use lib.ListN.{length};
+ghost use Rattle.model.specs.Limits.{maxGrants};
+ghost use Rattle.model.specs.Kind.{kindOf, kindNumber};
+ghost use Rattle.pool.specs.Capacity.{poolLength};
+ghost use Rattle.pool.specs.Layout.{cellWords};
+ghost use Rattle.pool.specs.Cell.{grantAt, cellOf, withCell};
+ghost use Rattle.pool.specs.Fresh.{freeCell};
+use crate::Field;
+use crate::layout::CELL_WORDS;
+use crate::layout::field;
+use crate::layout::place_of;
+use model::Box;
+use model::Grant;
+use model::Kind;
+
+fn kind_of(number: u16) -> Kind
+    ensures { λ r. ⌜ r ≡ kindOf number ⌝ }
+{
+    if number == 1 { Kind::Opens } else { Kind::Bars }
+}
+
+fn kind_number(kind: Kind) -> u16
+    ensures { λ r. ⌜ (r ≡ kindNumber kind) × (r < 2) ⌝ }
+{
+    match kind {
+        Kind::Bars => 0,
+        Kind::Opens => 1,
+    }
+}
+
+fn bounds_at(pool: &[u16], cell: usize) -> Box
+    requires { ⌜ (0 < cell) × (cell ≤ maxGrants) × (poolLength cell ≤ length (now pool)) ⌝ }
+    ensures { λ r. ⌜ r ≡ grantAt (now (pool .entry)) cell .bounds ⌝ }
+{
+    Box {
+        staff_from: field(pool, cell, Field::StaffFrom),
+        staff_to: field(pool, cell, Field::StaffTo),
+        door_from: field(pool, cell, Field::DoorFrom),
+        door_to: field(pool, cell, Field::DoorTo),
+        quarter_from: field(pool, cell, Field::QuarterFrom),
+        quarter_to: field(pool, cell, Field::QuarterTo),
+    }
+}
+
+// The grant in a cell.
+pub fn grant_at(pool: &[u16], cell: usize) -> Grant
+    requires { ⌜ (0 < cell) × (cell ≤ maxGrants) × (poolLength cell ≤ length (now pool)) ⌝ }
+    ensures { λ r. ⌜ r ≡ grantAt (now (pool .entry)) cell ⌝ }
+{
+    let rank_kind = field(pool, cell, Field::RankKind);
+    Grant {
+        number: field(pool, cell, Field::Number),
+        rank: (rank_kind / 2 % 256) as u8,
+        kind: kind_of(rank_kind % 2),
+        bounds: bounds_at(pool, cell),
+    }
+}
+
+// Stores the words of a cell.
+fn store_cell(pool: &mut [u16], cell: usize, words: [u16; 10])
+    requires { ⌜ (0 < cell) × (cell ≤ maxGrants) × (poolLength cell ≤ length (now pool)) × (length words ≡ cellWords) ⌝ }
+    ensures { λ r. ⌜ now (pool .exit) ≡ withCell (now (pool .entry)) cell words ⌝ }
+{
+    let at = place_of(cell, Field::Left);
+    let mut i: usize = 0;
+    while i < CELL_WORDS {
+        pool[at + i] = words[i];
+        i += 1;
+    }
+}
+
+// Stores a grant as a node without sons.
+pub fn store_grant(pool: &mut [u16], cell: usize, g: Grant)
+    requires { ⌜ (0 < cell) × (cell ≤ maxGrants) × (poolLength cell ≤ length (now pool)) ⌝ }
+    ensures { λ r. ⌜ now (pool .exit) ≡ withCell (now (pool .entry)) cell (cellOf 0 0 g) ⌝ }
+{
+    let b = g.bounds;
+    let kind = g.kind;
+    let rank_kind = g.rank as u16 * 2 + kind_number(kind);
+    let words = [
+        0,
+        0,
+        g.number,
+        rank_kind,
+        b.staff_from,
+        b.staff_to,
+        b.door_from,
+        b.door_to,
+        b.quarter_from,
+        b.quarter_to,
+    ];
+    store_cell(pool, cell, words);
+}
+
+// Stores a free cell that leads to the next one.
+pub fn store_free(pool: &mut [u16], cell: usize, next: u16)
+    requires { ⌜ (0 < cell) × (cell ≤ maxGrants) × (poolLength cell ≤ length (now pool)) ⌝ }
+    ensures { λ r. ⌜ now (pool .exit) ≡ withCell (now (pool .entry)) cell (freeCell next) ⌝ }
+{
+    store_cell(pool, cell, [next, 0, 0, 0, 0, 0, 0, 0, 0, 0]);
+}
