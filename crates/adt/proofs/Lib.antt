@@ -17,3 +17,4 @@ pub mod InsertLaws
 pub mod FollowLaws
 pub mod UnlinkLaws
 pub mod RemoveLaws
+pub mod LiveLaws
