@@ -1,8 +1,10 @@
 -- A grant that is hung where its point leads: the tree then has the free head's cell in it, and all else stays.
---   BlankPart w p n at t g link    the place `link` is blank in the tree t, and the point p lies in the region there
+--   BlankPart p n at t g link      the place `link` is blank in the tree t, which hangs at the place `at`, and the point p lies in the
+--                                  region there
 --   wayDown-blank, descend-blank   the way down ends at such a place
 --   inserted-*                     reads of the words then
---   Inserted                       what an insertion leaves
+--   FirstFree, chain-first         the first cell of a free chain
+--   Inserted w v c t k ks g        what an insertion leaves: the words v, with the grant g in the cell k among those of t, and ks free
 --   insert-keeps-linked            it leaves that
 -- Assumes nothing.
 use Prim.Native.Nat.{ℕ, zero, suc, _-_, _<_, _≤_}

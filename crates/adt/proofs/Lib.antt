@@ -18,3 +18,4 @@ pub mod FollowLaws
 pub mod UnlinkLaws
 pub mod RemoveLaws
 pub mod LiveLaws
+pub mod CarriesLaws

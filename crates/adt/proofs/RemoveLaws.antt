@@ -1,7 +1,7 @@
 -- A cell that is removed: the tree then has all the others, each in a region that holds its point, and the cell is the free head.
---   freed-*                 reads of the words once a cell is free
---   Removed                 what a removal leaves
---   remove-keeps-linked     it leaves that
+--   freed-*                    reads of the words once a cell is free
+--   Removed w v c t k ks       what a removal leaves: the words v, with the cells of t but k in the tree, and k before ks free
+--   remove-keeps-linked        it leaves that
 -- That its walk is never lost is in FollowLaws. Assumes nothing.
 use Prim.Native.Nat.{ℕ, suc, _<_, _≤_}
 use mathlib.Core.Logic.{_≢_}
