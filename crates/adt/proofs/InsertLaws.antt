@@ -39,7 +39,7 @@ use Rattle.adt.specs.Insert.{Way, lost, blankAt, wayDown, descend, freeH
 use Rattle.adt.proofs.Spells.{Tree, blank, node, cellsOf, Spells, spells-blank, spells-node, FreeChain, chain-more}
 use Rattle.adt.proofs.TreeLaws.{son, spells-son}
 use Rattle.adt.proofs.PartLaws.{Part, part-here, part-son}
-use Rattle.adt.proofs.NodeLaws.{Away, root-away, other-away, Hook, hook-root, hook-link, hook-within, hook-header, field-set-hook, hook-withCell}
+use Rattle.adt.proofs.NodeLaws.{Away, root-away, other-away, Hook, hook-root, hook-link, hook-within, hook-header, hook-not-free, field-set-hook, hook-withCell}
 use Rattle.adt.proofs.FrameLaws.{chain-frame}
 use Rattle.adt.proofs.PartRegion.{regionIn}
 use Rattle.adt.proofs.ExchangeLaws.{exchanged, outside, exchanged-same, exchanged-put, part-outside, part-away, part-hook, Kept, exchanged-spells}
@@ -112,22 +112,18 @@ module _ (w : List ℕ) (g : Grant) {c at : ℕ} (hook : Hook c at) (long : leng
   unfolding inserted
   inserted-freeHead = getD-set-same (hung w at g) freePlace (nextFree w) 0 (omega (arith, length-hung))
 
-  -- a place at which a cell may hang is not the free head's
-  not-free : {link : ℕ} → Hook c link → link ≢ freePlace
-  not-free other e = hook-header freePlace other (omega arith) (omega arith) (sym e)
-
   -- where it hangs
   pub inserted-here : getD (inserted w at g) at 0 ≡ freeHead w
   unfolding inserted
   inserted-here =
-      getD-set-other (hung w at g) freePlace at (nextFree w) 0 (not-free hook)
+      getD-set-other (hung w at g) freePlace at (nextFree w) 0 (hook-not-free hook)
       ∙ getD-set-same (stored w g) at (freeHead w) 0 (omega (arith, hook-within hook, length-withCell w (freeHead w) (cellOf 0 0 g)))
 
   -- where others hang
   pub inserted-other : {link : ℕ} → Hook c link → link ≢ at → Away link (freeHead w) → getD (inserted w at g) link 0 ≡ getD w link 0
   unfolding inserted
   inserted-other {link} other apart away =
-      getD-set-other (hung w at g) freePlace link (nextFree w) 0 (not-free other)
+      getD-set-other (hung w at g) freePlace link (nextFree w) 0 (hook-not-free other)
       ∙ getD-set-other (stored w g) at link (freeHead w) 0 apart
       ∙ hook-withCell w (freeHead w) (cellOf 0 0 g) refl pos other away
 
@@ -135,7 +131,7 @@ module _ (w : List ℕ) (g : Grant) {c at : ℕ} (hook : Hook c at) (long : leng
   pub inserted-links : (s : Side) → Away at (freeHead w) → getD (inserted w at g) (linkPlace (freeHead w) s) 0 ≡ 0
   unfolding inserted fieldOf
   inserted-links s away =
-      getD-set-other (hung w at g) freePlace (linkPlace (freeHead w) s) (nextFree w) 0 (not-free (hook-link s pos le))
+      getD-set-other (hung w at g) freePlace (linkPlace (freeHead w) s) (nextFree w) 0 (hook-not-free {c = c} (hook-link s pos le))
       ∙ getD-set-other (stored w g) at (linkPlace (freeHead w) s) (freeHead w) 0 (away s)
       ∙ field-withCell-same w (freeHead w) (cellOf 0 0 g) refl c (linkField s) pos le long
       ∙ go s

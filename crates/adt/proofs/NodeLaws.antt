@@ -4,7 +4,7 @@
 --   Away at k, LinkOf ks at         the place is no link of the cell k; it is a link of one of the cells ks
 --   link-away, root-away, other-away     places that are no link of a cell
 --   Hook c at                       a place at which a cell may hang: the root's, or a link of one of the cells 1 to c
---   hook-within, hook-header        it lies in the pool, and is no other word of the header
+--   hook-within, hook-header, hook-not-free     it lies in the pool, and is no other word of the header
 --   field-set-hook                  a store there leaves the words of every grant
 --   hook-withCell                   a store of a cell leaves the places that are none of its links
 -- Assumes nothing.
@@ -19,7 +19,7 @@ use Rattle.geometry.specs.declared.Side.{Side}
 use Rattle.geometry.specs.declared.Side.the-variants.{Left, Right}
 use Rattle.pool.specs.declared.Field.{Field}
 use Rattle.pool.specs.declared.Field.the-variants.{Number}
-use Rattle.pool.specs.Layout.{rootPlace, headerWords, cellWords, offset, place, fieldOf}
+use Rattle.pool.specs.Layout.{rootPlace, freePlace, headerWords, cellWords, offset, place, fieldOf}
 use Rattle.pool.specs.Capacity.{poolLength}
 use Rattle.pool.specs.Cell.{withCell}
 use Rattle.pool.proofs.LayoutLaws.{place-injective, place-past-header, place-within, field-set-other-field, field-set-header}
@@ -80,6 +80,9 @@ hook-within {c} (hook-link {k = k} s pos le) = place-within c k (linkField s) po
 pub hook-header : {c at : ℕ} (i : ℕ) → Hook c at → i < headerWords → i ≢ rootPlace → i ≢ at
 hook-header i hook-root h n = n
 hook-header i (hook-link {k = k} s pos le) h n = omega (arith, place-past-header k (linkField s))
+
+pub hook-not-free : {c at : ℕ} → Hook c at → at ≢ freePlace
+hook-not-free hook e = hook-header freePlace hook (omega arith) (omega arith) (sym e)
 
 link-before-number : (s : Side) → offset (linkField s) < 2
 link-before-number Left = omega arith

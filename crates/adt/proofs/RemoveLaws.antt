@@ -4,7 +4,6 @@
 --   remove-keeps-linked        it leaves that
 -- That its walk is never lost is in FollowLaws. Assumes nothing.
 use Prim.Native.Nat.{ℕ, suc, _<_, _≤_}
-use mathlib.Core.Logic.{_≢_}
 use mathlib.Core.Path.{_≡_, refl, sym, _∙_}
 use mathlib.Core.List.{List, [], _∷_, _++_, List·Memᴰ, List·Memᴰ·head, List·Memᴰ·tail, Memᴰ·append-left, Memᴰ·append-right, Memᴰ·cast}
 use native.Mathlib.Omega.{arith}
@@ -30,7 +29,7 @@ use Rattle.adt.specs.Insert.{freeHead}
 use Rattle.adt.specs.Remove.{terminal, terminalFrom, freed, removed}
 use Rattle.adt.proofs.Spells.{Tree, blank, node, cellsOf, Spells, FreeChain, chain-more}
 use Rattle.adt.proofs.PartLaws.{Part, HangsAt}
-use Rattle.adt.proofs.NodeLaws.{Away, root-away, other-away, Hook, hook-root, hook-link, hook-header, hook-withCell}
+use Rattle.adt.proofs.NodeLaws.{Away, root-away, other-away, Hook, hook-root, hook-link, hook-not-free, hook-withCell}
 use Rattle.adt.proofs.FrameLaws.{spells-frame, chain-frame}
 use Rattle.adt.proofs.PartRegion.{regionIn, region-shape, region-spells}
 use Rattle.adt.proofs.ExchangeLaws.{spells-cell, exchanged, outside, exchanged-cells, part-outside, part-away, part-hook, Kept, exchanged-spells}
@@ -56,20 +55,17 @@ module _ (x : List ℕ) {c k : ℕ} (long : length x ≡ poolLength c) (pos : 0 
   unfolding freed
   freed-freeHead = getD-set-same (emptied x k) freePlace k 0 (omega (arith, length-withCell x k (freeCell (freeHead x))))
 
-  not-free : {link : ℕ} → Hook c link → link ≢ freePlace
-  not-free other e = hook-header freePlace other (omega arith) (omega arith) (sym e)
-
   -- it leads to the old free head
   pub freed-left : getD (freed x k) (linkPlace k Left) 0 ≡ freeHead x
   unfolding freed fieldOf
   freed-left =
-      getD-set-other (emptied x k) freePlace (linkPlace k Left) k 0 (not-free (hook-link Left pos le))
+      getD-set-other (emptied x k) freePlace (linkPlace k Left) k 0 (hook-not-free {c = c} (hook-link Left pos le))
       ∙ field-withCell-same x k (freeCell (freeHead x)) refl c field.Left pos le long
 
   -- where others hang
   pub freed-other : {link : ℕ} → Hook c link → Away link k → getD (freed x k) link 0 ≡ getD x link 0
   unfolding freed
-  freed-other {link} other away = getD-set-other (emptied x k) freePlace link k 0 (not-free other) ∙ hook-withCell x k (freeCell (freeHead x)) refl pos other away
+  freed-other {link} other away = getD-set-other (emptied x k) freePlace link k 0 (hook-not-free other) ∙ hook-withCell x k (freeCell (freeHead x)) refl pos other away
 
   -- others' grants
   pub freed-words : (j : ℕ) → 0 < j → ¬ (j ≡ k) → SameGrantWords x (freed x k) j
