@@ -14,3 +14,14 @@ pub mod SearchSpots
 pub mod SearchLinks
 pub mod WayLinks
 pub mod RemovalLinks
+pub mod NodeLaws
+pub mod FrameLaws
+pub mod FreshLaws
+pub mod ExchangeLaws
+pub mod Linked
+pub mod InsertLaws
+pub mod FollowLaws
+pub mod UnlinkLaws
+pub mod RemoveLaws
+pub mod LiveLaws
+pub mod CarriesLaws

@@ -4,3 +4,6 @@ pub mod TestLaws
 pub mod ElementLaws
 pub mod RangeLaws
 pub mod DistinctLaws
+pub mod PermLaws
+pub mod CountLaws
+pub mod SortLaws
