@@ -12,6 +12,7 @@ pub mod WayLaws
 pub mod LinkLaws
 pub mod SearchSpots
 pub mod SearchLinks
+pub mod HitLaws
 pub mod WayLinks
 pub mod RemovalLinks
 pub mod NodeLaws

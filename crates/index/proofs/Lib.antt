@@ -1,3 +1,4 @@
 -- Laws of the calls, for the crates above.
 pub mod LinkCauseLaws
 pub mod OrderLaws
+pub mod FindLaws

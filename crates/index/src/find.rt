@@ -13,7 +13,11 @@ use geometry::range::range_of_number;
 pub enum NumberHit {
     Broken,
     Absent,
-    At { cell: usize, level: usize, link: usize },
+    At {
+        cell: usize,
+        level: usize,
+        link: usize,
+    },
 }
 
 pub fn find_number(pool: &[u16], cells: usize, number: u16) -> NumberHit
