@@ -4,6 +4,7 @@ pub mod SearchSteps
 pub mod EnterSteps
 pub mod SearchStarts
 pub mod WaySteps
+pub mod WithinLaws
 pub mod TreeLaws
 pub mod PartLaws
 pub mod PartRegion

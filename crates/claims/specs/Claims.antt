@@ -26,7 +26,6 @@ use Rattle.model.specs.declared.Box.{Box}
 use Rattle.model.specs.declared.Grant.{Grant}
 use Rattle.model.specs.declared.Fault.the-variants.{BadPool, BrokenLinks, BadChecksum}
 use Rattle.model.specs.declared.Decision.the-variants as decision
-use Rattle.model.specs.Limits.{maxGrants}
 use Rattle.model.specs.Interval.{Interval, holds}
 use Rattle.model.specs.Box.{doorsOf, pointBox}
 use Rattle.model.specs.Overlap.{Overlap}
@@ -38,7 +37,7 @@ use Rattle.model.specs.Call.{Request, Call}
 use Rattle.model.specs.Book.{Book, emptyBook, bookStep}
 use Rattle.geometry.specs.Point.{inside, pointOf}
 use Rattle.geometry.specs.SearchRange.{rangeOfBox, rangeOfDoors, rangeOfNumber, rangeOfAll}
-use Rattle.pool.specs.Capacity.{poolLength, capacityOf, wrongLength, wrongPool}
+use Rattle.pool.specs.Capacity.{Sized, wrongLength, wrongPool}
 use Rattle.grants_file.specs.Block.{blockBytes}
 use Rattle.grants_file.specs.File.{fileOf, doorsIn, grantsIn}
 use Rattle.grants_file.specs.BlockRead.{readCauses}
@@ -53,10 +52,8 @@ use Rattle.grants_file.specs.FileSets.{Accepted, DoorRange, FileSet, Ordering, 
 use Rattle.model.specs.Judged.{Judged}
 
 -- memory for a pool of c cells, c from 1 to 2,048, whatever it holds
-pub record Memory (c : ℕ) (w : List ℕ) : Type 0 where
-  pub some : 1 ≤ c
-  pub few : c ≤ maxGrants
-  pub long : length w ≡ poolLength c
+abbrev pub Memory : ℕ → List ℕ → Type 0
+Memory c w = Sized w c
 
 -- the words, and the book, after a list of calls on a fresh index of c cells
 abbrev pub wordsAfter : List ℕ → List Call → List ℕ

@@ -15,12 +15,8 @@ use lib.ListN.{length, getD}
 use borrow.Author.Tests.{leb-true, eqb-true, le-leb, eq-eqb, not-false}
 use Rattle.model.specs.Limits.{maxGrants}
 use Rattle.pool.specs.Layout.{capacityPlace}
+pub use Rattle.pool.specs.Capacity.{Sized}
 use Rattle.pool.specs.Capacity.{poolLength, capacityOf, wrongLength, wrongPool}
-
-pub record Sized (w : List ℕ) (c : ℕ) : Type 0 where
-  pub some : 1 ≤ c
-  pub few : c ≤ maxGrants
-  pub long : length w ≡ poolLength c
 
 pub capacityOf-poolLength : (w : List ℕ) (c : ℕ) → length w ≡ poolLength c → capacityOf w ≡ c
 unfolding capacityOf

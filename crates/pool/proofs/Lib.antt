@@ -5,4 +5,5 @@ pub mod CellLaws
 pub mod CapacityLaws
 pub mod CapacitySteps
 pub mod FreshLaws
+pub mod FreshSteps
 pub mod GrantWordsLaws

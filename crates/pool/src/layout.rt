@@ -7,7 +7,7 @@ ghost use Rattle.pool.specs.Layout.{place, offset, cellWords, fieldOf};
 ghost use Rattle.pool.specs.Capacity.{poolLength, lengthCapacity, poolCapacity};
 use crate::Field;
 
-const CAPACITY: usize = 0;
+pub const CAPACITY: usize = 0;
 
 pub const ROOT: usize = 1;
 

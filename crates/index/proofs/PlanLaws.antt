@@ -1,0 +1,275 @@
+-- How grant, revoke and start come to their answer, test by test.
+--   pool-refused, pool-taken, length-refused, length-taken       what a capacity says of fault 1
+--   grant-pool, grant-zero, grant-kind, grant-reversed, grant-broken, grant-live, grant-absent   grant's line, in its order
+--   slot-way, slot-lost, free-above, free-none, free-next-above, free-planned   the way down and the free head
+--   plan-inserts, grant-refused, grant-done     what grant stores and leaves
+--   revoke-pool, revoke-zero, revoke-broken, revoke-absent, revoke-lost, revoke-planned    revoke's line
+--   hit-within, plan-removes, revoke-refused, revoke-done   what revoke stores and leaves
+--   start-refused, start-done
+-- Assumes nothing.
+use Prim.Native.Nat.{ℕ, zero, suc, _-_, _<_, _≤_}
+use mathlib.Core.Path.{_≡_, refl, sym, ap, subst, _∙_}
+use mathlib.Core.Bool.{Bool, true, false, not, cond, _||_, _&&_}
+use mathlib.Core.List.{List, [], _∷_}
+use mathlib.Core.Option.{none, some}
+use native.Mathlib.Omega.{arith}
+use lib.Dec.{ltb, eqb, eqb·suc-zero}
+use lib.ListN.{length, getD}
+use borrow.Author.Tests.{lt-ltb, le-ltb, eq-eqb, ne-eqb}
+use Rattle.model.specs.declared.Fault.{Fault}
+use Rattle.model.specs.declared.Fault.the-variants.{BadPool, Reversed, ZeroNumber, UnknownKind, AlreadyLive, Full, NotLive, BrokenLinks}
+use Rattle.model.specs.declared.Grant.{Grant}
+use Rattle.model.specs.declared.Outcome.the-variants as outcome
+use Rattle.model.specs.Limits.{maxGrants}
+use Rattle.model.specs.Answer.{outcomeAnswer}
+use Rattle.model.specs.Refusal.{_if_, firstFault, refusing}
+use Rattle.model.specs.Arguments.{reversedBox}
+use Rattle.model.specs.Call.{Request, requested}
+use Rattle.geometry.specs.Levels.{levels}
+use Rattle.geometry.specs.Point.{pointOf}
+use Rattle.pool.specs.Capacity.{Sized, capacityOf, poolLength, wrongLength, wrongPool, lengthCapacity, poolCapacity}
+use Rattle.pool.specs.Fresh.{freshPool}
+use Rattle.pool.proofs.CapacityLaws.{capacityOf-poolLength, wrongLength-iff, wrongPool-iff}
+use Rattle.adt.specs.Search.{Spot, broken, going}
+use Rattle.adt.specs.Insert.{blankAt, wayDown, descend, freeHead, nextFree, freeBroken, inserted}
+use Rattle.adt.specs.Insert as insert
+use Rattle.adt.specs.Remove.{terminal, follow, terminalFrom, removed}
+use Rattle.adt.specs.Remove as remove
+use Rattle.adt.specs.declared.insert.Slot.{Slot}
+use Rattle.adt.specs.WalkResult.{wayOf, InPool, Removable}
+use Rattle.adt.proofs.WithinLaws.{way-within, follow-within}
+use Rattle.index.specs.declared.find.NumberHit.the-variants as hit
+use Rattle.index.specs.declared.grant.Insertion.{Insertion}
+use Rattle.index.specs.declared.grant.Insertion.the-variants as insertion
+use Rattle.index.specs.declared.revoke.Removal.the-variants as removal
+use Rattle.index.specs.Walks.{numberSearch, isBroken, hitsOf, requestWay, removalOf}
+use Rattle.index.specs.Causes.{numberLive, noFreeCell, grantBroken, revokeBroken}
+use Rattle.index.specs.Order.{startOrder, grantOrder, revokeOrder}
+use Rattle.index.specs.Calls.{startCall, grantCall, revokeCall}
+use Rattle.index.specs.Contract.{Leaves}
+use Rattle.index.specs.NumberSearch.{FirstAt, NumberFound}
+use Rattle.index.specs.Plans.{grantLine, revokeLine, slotOrder, Insertable, InsertionPlanned, Found, RemovalPlanned}
+
+-- a capacity that a test kept or set to 0
+kept : (b : Bool) {c k : ℕ} → c ≡ cond b 0 k → ¬ (c ≡ 0) → (b ≡ false) × (k ≡ c)
+kept true e n = absurd (n e)
+kept false e n = (refl, sym e)
+
+module _ (w : List ℕ) {c : ℕ} where
+  pub pool-taken : c ≡ poolCapacity w → ¬ (c ≡ 0) → (wrongPool w ≡ false) × Sized w c
+  pool-taken e n =
+      let k = kept (wrongPool w) e n in
+      let s = wrongPool-iff w .0 (k .0) in
+      let same : s .0 ≡ c = sym (capacityOf-poolLength w (s .0) (s .1 .long)) ∙ k .1 in
+      (k .0, subst (Sized w) same (s .1))
+
+  pub pool-refused : c ≡ poolCapacity w → c ≡ 0 → wrongPool w ≡ true
+  pool-refused e z = go (wrongPool w) refl
+    where
+      go : (b : Bool) → wrongPool w ≡ b → wrongPool w ≡ true
+      go true f = f
+      go false f =
+          let s = wrongPool-iff w .0 f in
+          let same : s .0 ≡ 0 = sym (capacityOf-poolLength w (s .0) (s .1 .long)) ∙ sym (e ∙ rw f) ∙ z in
+          absurd (omega (arith, s .1 .some))
+
+  pub length-taken : c ≡ lengthCapacity w → ¬ (c ≡ 0) → (wrongLength w ≡ false) × Sized w c
+  length-taken e n =
+      let k = kept (wrongLength w) e n in
+      let s = wrongLength-iff w .0 (k .0) in
+      let same : s .0 ≡ c = sym (capacityOf-poolLength w (s .0) (s .1 .long)) ∙ k .1 in
+      (k .0, subst (Sized w) same (s .1))
+
+  pub length-refused : c ≡ lengthCapacity w → c ≡ 0 → wrongLength w ≡ true
+  length-refused e z = go (wrongLength w) refl
+    where
+      go : (b : Bool) → wrongLength w ≡ b → wrongLength w ≡ true
+      go true f = f
+      go false f =
+          let s = wrongLength-iff w .0 f in
+          let same : s .0 ≡ 0 = sym (capacityOf-poolLength w (s .0) (s .1 .long)) ∙ sym (e ∙ rw f) ∙ z in
+          absurd (omega (arith, s .1 .some))
+
+-- grant's line, as far as its tests have come
+module _ (w : List ℕ) (r : Request) where
+  pub grant-pool : wrongPool w ≡ true → InsertionPlanned (grantLine w r) w r (insertion.Refused BadPool)
+  unfolding InsertionPlanned grantOrder firstFault
+  grant-pool e = rw e
+
+  module _ (p : wrongPool w ≡ false) where
+    pub grant-zero : r .number ≡ 0 → InsertionPlanned (grantLine w r) w r (insertion.Refused ZeroNumber)
+    unfolding InsertionPlanned grantOrder firstFault
+    grant-zero e = rw (p, eq-eqb (r .number) 0 e)
+
+    module _ (n : ¬ (r .number ≡ 0)) where
+      pub grant-kind : 1 < r .kind → InsertionPlanned (grantLine w r) w r (insertion.Refused UnknownKind)
+      unfolding InsertionPlanned grantOrder firstFault
+      grant-kind h = rw (p, ne-eqb (r .number) 0 n, lt-ltb 1 (r .kind) h)
+
+      module _ (k : r .kind ≤ 1) where
+        pub grant-reversed : reversedBox (r .bounds) ≡ true → InsertionPlanned (grantLine w r) w r (insertion.Refused Reversed)
+        unfolding InsertionPlanned grantOrder firstFault
+        grant-reversed e = rw (p, ne-eqb (r .number) 0 n, le-ltb 1 (r .kind) k, e)
+
+        module _ (b : reversedBox (r .bounds) ≡ false) where
+          -- the arguments are right, and the walks decide
+          to-walks : firstFault (grantLine w r) ≡ firstFault (BrokenLinks if grantBroken w r ∷ AlreadyLive if numberLive (hitsOf (numberSearch w (r .number))) ∷ Full if noFreeCell w ∷ [])
+          unfolding grantOrder firstFault
+          to-walks = rw (p, ne-eqb (r .number) 0 n, le-ltb 1 (r .kind) k, b)
+
+          pub grant-broken : NumberFound w (r .number) hit.Broken → InsertionPlanned (grantLine w r) w r (insertion.Refused BrokenLinks)
+          unfolding InsertionPlanned NumberFound firstFault grantBroken
+          grant-broken f = to-walks ∙ rw f
+
+          pub grant-live : (cell level link : ℕ) → NumberFound w (r .number) (hit.At cell level link)
+              → InsertionPlanned (grantLine w r) w r (insertion.Refused AlreadyLive)
+          unfolding InsertionPlanned NumberFound firstFault grantBroken
+          grant-live cell level link f = to-walks ∙ rw (f .found, eqb·suc-zero (length (f .others)))
+
+          module _ (f : NumberFound w (r .number) hit.Absent) where
+            absent-line : firstFault (grantLine w r) ≡ firstFault (slotOrder w r)
+            unfolding NumberFound firstFault grantBroken slotOrder
+            absent-line = to-walks ∙ rw (f .unbroken, f .none)
+
+            pub grant-absent : (plan : Insertion) → InsertionPlanned (slotOrder w r) w r plan → InsertionPlanned (grantLine w r) w r plan
+            unfolding InsertionPlanned
+            grant-absent (insertion.Refused fault) e = absent-line ∙ e
+            grant-absent (insertion.At link free next) e = record {
+              passes = absent-line ∙ e .passes;
+              way = e .way;
+              place = e .place;
+              head = e .head;
+              after = e .after;
+              cell = e .cell;
+            }
+
+  -- the way down, from what the code finds, and the free head
+  pub slot-way : {g : Grant} {point : List ℕ} {slot found : Slot} → g ≡ requested r → point ≡ pointOf g → wayOf slot ≡ descend w point → slot ≡ found
+      → requestWay w r ≡ wayOf found
+  slot-way eg ep e es = ap (λ (g : Grant). descend w (pointOf g)) (sym eg) ∙ ap (descend w) (sym ep) ∙ sym e ∙ ap wayOf es
+
+  pub slot-lost : requestWay w r ≡ insert.lost → InsertionPlanned (slotOrder w r) w r (insertion.Refused BrokenLinks)
+  unfolding InsertionPlanned slotOrder firstFault
+  slot-lost e = rw e
+
+  module _ {c link free : ℕ} (sized : Sized w c) (way : requestWay w r ≡ blankAt link) (head : free ≡ freeHead w) where
+    capacity-is : capacityOf w ≡ c
+    capacity-is = capacityOf-poolLength w c (sized .long)
+
+    pub free-above : c < free → InsertionPlanned (slotOrder w r) w r (insertion.Refused BrokenLinks)
+    unfolding InsertionPlanned slotOrder firstFault freeBroken
+    free-above h = rw (way, capacity-is, ← head, lt-ltb c free h)
+
+    module _ (le : free ≤ c) where
+      pub free-none : free ≡ 0 → InsertionPlanned (slotOrder w r) w r (insertion.Refused Full)
+      unfolding InsertionPlanned slotOrder firstFault freeBroken
+      free-none z = rw (way, capacity-is, ← head, le-ltb c free le, eq-eqb free 0 z)
+
+      module _ (nz : ¬ (free ≡ 0)) {next : ℕ} (after : next ≡ nextFree w) where
+        pub free-next-above : c < next → InsertionPlanned (slotOrder w r) w r (insertion.Refused BrokenLinks)
+        unfolding InsertionPlanned slotOrder firstFault freeBroken
+        free-next-above h = rw (way, capacity-is, ← after, ← head, le-ltb c free le, ne-eqb free 0 nz, lt-ltb c next h)
+
+        pub free-planned : next ≤ c → InsertionPlanned (slotOrder w r) w r (insertion.At link free next)
+        unfolding InsertionPlanned slotOrder firstFault freeBroken descend
+        free-planned h = record {
+          passes = rw (way, capacity-is, ← after, ← head, le-ltb c free le, ne-eqb free 0 nz, le-ltb c next h);
+          way = way;
+          place = way-within w c (sized .long) _ _ _ _ _ _ (omega (arith, sized .long)) (rw capacity-is at way);
+          head = head;
+          after = after;
+          cell = record { some = omega arith; few = omega (arith, sized .few); long = omega (arith, sized .long) };
+        }
+
+  -- what the stores need
+  pub plan-inserts : (link free next : ℕ) → InsertionPlanned (grantLine w r) w r (insertion.At link free next)
+      → (0 < free) × (free ≤ maxGrants) × (poolLength free ≤ length w) × (link < length w) × (free ≡ freeHead w) × (next ≡ nextFree w)
+  unfolding InsertionPlanned
+  plan-inserts link free next p = (p .cell .some, p .cell .few, p .cell .long, p .place, p .head, p .after)
+
+  pub grant-refused : (fault : Fault) → InsertionPlanned (grantLine w r) w r (insertion.Refused fault) → Leaves (outcomeAnswer (outcome.Refused fault)) w (grantCall w r)
+  unfolding InsertionPlanned grantCall refusing
+  grant-refused fault e = record { answered = rw e; left = rw e }
+
+  pub grant-done : (link free next : ℕ) {v : List ℕ} → InsertionPlanned (grantLine w r) w r (insertion.At link free next) → v ≡ inserted w link (requested r)
+      → Leaves (outcomeAnswer outcome.Done) v (grantCall w r)
+  unfolding InsertionPlanned grantCall refusing
+  grant-done link free next p e = record { answered = rw (p .passes); left = e ∙ rw (p .passes, p .way) }
+
+-- revoke's line, as far as its tests have come
+module _ (w : List ℕ) (n : ℕ) where
+  pub revoke-pool : wrongPool w ≡ true → RemovalPlanned w n (removal.Refused BadPool)
+  unfolding RemovalPlanned revokeOrder firstFault
+  revoke-pool e = rw e
+
+  module _ (p : wrongPool w ≡ false) where
+    pub revoke-zero : n ≡ 0 → RemovalPlanned w n (removal.Refused ZeroNumber)
+    unfolding RemovalPlanned revokeOrder firstFault
+    revoke-zero e = rw (p, eq-eqb n 0 e)
+
+    module _ (nz : ¬ (n ≡ 0)) where
+      pub revoke-broken : NumberFound w n hit.Broken → RemovalPlanned w n (removal.Refused BrokenLinks)
+      unfolding RemovalPlanned revokeOrder firstFault NumberFound revokeBroken
+      revoke-broken f = rw (p, ne-eqb n 0 nz, f)
+
+      pub revoke-absent : NumberFound w n hit.Absent → RemovalPlanned w n (removal.Refused NotLive)
+      unfolding RemovalPlanned revokeOrder firstFault NumberFound revokeBroken
+      revoke-absent f = rw (p, ne-eqb n 0 nz, f .unbroken, f .none)
+
+      module _ {c : ℕ} (sized : Sized w c) (cell level link : ℕ) (f : NumberFound w n (hit.At cell level link)) where
+        -- the removal walk is that of the first hit
+        walk : follow w c (levels - level) cell link 1 ≡ removalOf w (numberSearch w n)
+        unfolding NumberFound terminalFrom
+        walk = rw (f .found, capacityOf-poolLength w c (sized .long))
+
+        -- the first hit is a cell of the pool, at a level of the tree
+        pub hit-within : (0 < cell) × (cell ≤ c) × (level ≤ levels)
+        unfolding NumberFound
+        hit-within = (f .some, subst (λ (x : ℕ). cell ≤ x) (capacityOf-poolLength w c (sized .long)) (f .few), f .deep)
+
+        pub revoke-lost : remove.lost ≡ follow w c (levels - level) cell link 1 → RemovalPlanned w n (removal.Refused BrokenLinks)
+        unfolding RemovalPlanned revokeOrder firstFault NumberFound revokeBroken
+        revoke-lost e = let lost = sym (e ∙ walk) in rw (p, ne-eqb n 0 nz, lost, f .found, eqb·suc-zero (length (f .others)))
+
+        pub revoke-planned : (leaf cut : ℕ) → terminal leaf cut ≡ follow w c (levels - level) cell link 1 → RemovalPlanned w n (removal.Of cell link leaf cut)
+        unfolding RemovalPlanned revokeOrder firstFault NumberFound revokeBroken
+        revoke-planned leaf cut e =
+            let ends = sym (e ∙ walk) in
+            let cap = capacityOf-poolLength w c (sized .long) in
+            let few : cell ≤ c = subst (λ (x : ℕ). cell ≤ x) cap (f .few) in
+            let end = follow-within w c (sized .long) (levels - level) cell link 1 leaf cut (f .some) few (f .place) (sym e) in
+            record {
+              passes = rw (p, ne-eqb n 0 nz, ends, f .found, eqb·suc-zero (length (f .others)));
+              first = rw (f .found);
+              spot = rw (f .found);
+              ends = ends;
+              inside =
+                  record {
+                    cell = record { some = f .some; few = omega (arith, sized .few); long = omega (arith, sized .long) };
+                    terminal = record { some = end .some; few = omega (arith, end .few, sized .few); long = omega (arith, end .few, sized .long) };
+                    at = f .place;
+                    cut-at = end .place;
+                  };
+            }
+
+  pub plan-removes : (cell link leaf cut : ℕ) → RemovalPlanned w n (removal.Of cell link leaf cut) → Removable w cell link leaf cut
+  unfolding RemovalPlanned
+  plan-removes cell link leaf cut p = p .inside
+
+  pub revoke-refused : (fault : Fault) → RemovalPlanned w n (removal.Refused fault) → Leaves (outcomeAnswer (outcome.Refused fault)) w (revokeCall w n)
+  unfolding RemovalPlanned revokeCall refusing
+  revoke-refused fault e = record { answered = rw e; left = rw e }
+
+  pub revoke-done : (cell link leaf cut : ℕ) {v : List ℕ} → RemovalPlanned w n (removal.Of cell link leaf cut) → v ≡ removed w cell link leaf cut
+      → Leaves (outcomeAnswer outcome.Done) v (revokeCall w n)
+  unfolding RemovalPlanned revokeCall refusing
+  revoke-done cell link leaf cut p e = record { answered = rw (p .passes); left = e ∙ rw (p .passes, p .ends, p .first, p .spot) }
+
+module _ (w : List ℕ) where
+  pub start-refused : wrongLength w ≡ true → Leaves (outcomeAnswer (outcome.Refused BadPool)) w (startCall w)
+  unfolding startCall refusing startOrder firstFault
+  start-refused e = record { answered = rw e; left = rw e }
+
+  pub start-done : {c : ℕ} {v : List ℕ} → wrongLength w ≡ false → Sized w c → v ≡ freshPool c → Leaves (outcomeAnswer outcome.Done) v (startCall w)
+  unfolding startCall refusing startOrder firstFault
+  start-done {c} p s e = record { answered = rw p; left = e ∙ rw (p, capacityOf-poolLength w c (s .long)) }

@@ -1,0 +1,44 @@
+-- `revoke::revoke` meets its contract: it refuses, or stores what was planned. Assumes nothing.
+use Rattle.index.proofs.PlanLaws.{plan-removes, revoke-refused, revoke-done}
+use Rattle.index.specs.Plans.{RemovalPlanned}
+use mathlib.Core.Path.{subst}
+use borrow.Author.Needs.{needs}
+use Rattle.index.proofs.revoke.revoke.Statement.{statement}
+use Rattle.index.proofs.revoke.revoke.Tie as tie
+
+plan-removal-requires : tie.Need-plan-removal-requires
+plan-removal-requires c κs = search needs
+
+enum-known-removal : tie.Need-enum-known-removal
+enum-known-removal c = search needs
+
+enum-known-removal-2 : tie.Need-enum-known-removal-2
+enum-known-removal-2 c = search needs
+
+remove-requires : tie.Need-remove-requires
+remove-requires c κs = plan-removes (c .before .before .before .before .before .before .before .args .pool .now) _ _ _ _ _ (subst (RemovalPlanned (c .before .before .before .before .before .before .before .args .pool .now) (c .before .before .before .before .before .before .before .args .number)) (c .before .before .removal2 .given .1) (c .before .before .before .before .plan-removal .ensures))
+
+same-length : tie.Need-same-length
+same-length c = search needs
+
+returns : tie.Need-returns
+returns c = revoke-refused (c .before .before .before .before .before .before .args .pool .now) _ _ (subst (RemovalPlanned (c .before .before .before .before .before .before .args .pool .now) (c .before .before .before .before .before .before .args .number)) (c .before .removal .given .1) (c .before .before .before .plan-removal .ensures))
+
+same-length-2 : tie.Need-same-length-2
+same-length-2 c = search needs
+
+returns-2 : tie.Need-returns-2
+returns-2 c = revoke-done (c .before .before .before .before .before .before .before .before .before .before .args .pool .now) _ _ _ _ _ (subst (RemovalPlanned (c .before .before .before .before .before .before .before .before .before .before .args .pool .now) (c .before .before .before .before .before .before .before .before .before .before .args .number)) (c .before .before .before .before .before .removal2 .given .1) (c .before .before .before .before .before .before .before .plan-removal .ensures)) (c .before .before .remove .ensures)
+
+pub revoke-spec : {M : Type 1} → statement M
+revoke-spec =
+    tie.close
+    (tie.spec
+    plan-removal-requires
+    enum-known-removal
+    enum-known-removal-2
+    remove-requires
+    same-length
+    returns
+    same-length-2
+    returns-2)

@@ -1,0 +1,60 @@
+-- What the code of grant and revoke knows once all walks and tests are done, and before it writes. Contracts of inner functions cite it;
+-- no claim does.
+--   slotOrder w r                    the end of grant's order line, where the number isn't found
+--   InsertionPlanned causes w r p    p refuses by these causes, or says where the requested grant hangs
+--   RemovalPlanned w n p             p refuses as revoke does, or says which cell goes and which takes its place
+--   grantLine w r, revokeLine w n     the order lines, with what the walks found
+-- Assumes nothing: these are definitions.
+use Prim.Native.Nat.{ℕ, _<_, _≤_}
+use mathlib.Core.Path.{_≡_}
+use mathlib.Core.Bool.{_||_}
+use mathlib.Core.List.{List, [], _∷_}
+use mathlib.Core.Option.{none, some}
+use lib.ListN.{length}
+use Rattle.model.specs.declared.Fault.the-variants.{BrokenLinks, Full}
+use Rattle.model.specs.Limits.{maxGrants}
+use Rattle.model.specs.Refusal.{Cause, _if_, firstFault}
+use Rattle.model.specs.Call.{Request}
+use Rattle.pool.specs.Capacity.{poolLength}
+use Rattle.adt.specs.Insert.{freeHead, nextFree, freeBroken, blankAt}
+use Rattle.adt.specs.Remove.{terminal}
+use Rattle.adt.specs.WalkResult.{InPool, Removable}
+use Rattle.index.specs.declared.grant.Insertion.{Insertion}
+use Rattle.index.specs.declared.grant.Insertion.the-variants as insertion
+use Rattle.index.specs.declared.revoke.Removal.{Removal}
+use Rattle.index.specs.declared.revoke.Removal.the-variants as removal
+use Rattle.index.specs.Walks.{numberSearch, hitsOf, firstHit, firstSpotOf, requestWay, removalOf}
+use Rattle.index.specs.Causes.{noFreeCell, wayLost, grantBroken, revokeBroken}
+use Rattle.index.specs.Order.{grantOrder, revokeOrder}
+
+abbrev pub grantLine : List ℕ → Request → List Cause
+grantLine w r = grantOrder w r (grantBroken w r) (hitsOf (numberSearch w (r .number)))
+
+abbrev pub revokeLine : List ℕ → ℕ → List Cause
+revokeLine w n = revokeOrder w n (revokeBroken w n) (hitsOf (numberSearch w n))
+
+unfoldable pub slotOrder : List ℕ → Request → List Cause
+slotOrder w r = BrokenLinks if (wayLost (requestWay w r) || freeBroken w) ∷ Full if noFreeCell w ∷ []
+
+pub record Insertable (causes : List Cause) (w : List ℕ) (r : Request) (link free next : ℕ) : Type 0 where
+  pub passes : firstFault causes ≡ none
+  pub way : requestWay w r ≡ blankAt link
+  pub place : link < length w
+  pub head : free ≡ freeHead w
+  pub after : next ≡ nextFree w
+  pub cell : InPool w free
+
+unfoldable pub InsertionPlanned : List Cause → List ℕ → Request → Insertion → Type 0
+InsertionPlanned causes w r (insertion.Refused f) = firstFault causes ≡ some f
+InsertionPlanned causes w r (insertion.At link free next) = Insertable causes w r link free next
+
+pub record Found (w : List ℕ) (n k link leaf cut : ℕ) : Type 0 where
+  pub passes : firstFault (revokeLine w n) ≡ none
+  pub first : firstHit (numberSearch w n) ≡ k
+  pub spot : firstSpotOf (numberSearch w n) .link ≡ link
+  pub ends : removalOf w (numberSearch w n) ≡ terminal leaf cut
+  pub inside : Removable w k link leaf cut
+
+unfoldable pub RemovalPlanned : List ℕ → ℕ → Removal → Type 0
+RemovalPlanned w n (removal.Refused f) = firstFault (revokeLine w n) ≡ some f
+RemovalPlanned w n (removal.Of k link leaf cut) = Found w n k link leaf cut
