@@ -8,3 +8,9 @@ pub mod PartLaws
 pub mod PartRegion
 pub mod SearchLaws
 pub mod WayLaws
+pub mod NodeLaws
+pub mod FrameLaws
+pub mod FreshLaws
+pub mod ExchangeLaws
+pub mod Linked
+pub mod InsertLaws

@@ -4,3 +4,5 @@ pub mod TestLaws
 pub mod ElementLaws
 pub mod RangeLaws
 pub mod DistinctLaws
+pub mod PermLaws
+pub mod CountLaws

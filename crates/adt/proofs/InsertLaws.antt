@@ -1,0 +1,287 @@
+-- A grant that is hung where its point leads: the tree then has the free head's cell in it, and all else stays.
+--   BlankPart w p n at t g link    the place `link` is blank in the tree t, and the point p lies in the region there
+--   wayDown-blank, descend-blank   the way down ends at such a place
+--   inserted-*                     reads of the words then
+--   Inserted                       what an insertion leaves
+--   insert-keeps-linked            it leaves that
+-- Assumes nothing.
+use Prim.Native.Nat.{ℕ, zero, suc, _-_, _<_, _≤_}
+use mathlib.Core.Logic.{_≢_}
+use mathlib.Core.Path.{_≡_, refl, sym, subst, _∙_}
+use mathlib.Core.Bool.{Bool, true, false, cond, _&&_}
+use mathlib.Core.List.{List, [], _∷_, List·Memᴰ, List·Memᴰ·head, List·Memᴰ·tail, Memᴰ·append-left, Memᴰ·append-right, Memᴰ·cast}
+use native.Mathlib.Omega.{arith}
+use lib.Dec.{leb, ltb}
+use lib.ListN.{length, getD, set, length-set}
+use lib.Seq.{getD-set-same, getD-set-other}
+use borrow.Author.Tests.{eq-eqb, ne-eqb}
+use Rattle.lists.proofs.DistinctLaws.{Distinct, Upto, distinct-left, distinct-right, distinct-apart}
+use Rattle.lists.proofs.PermLaws.{Put, put-first, put-append-left, put-seam, put-perm, perm-sym, perm-trans, perm-mem, perm-distinct}
+use Rattle.model.specs.declared.Grant.{Grant}
+use Rattle.model.specs.Values.{GrantFits}
+use Rattle.geometry.specs.declared.Side.{Side}
+use Rattle.geometry.specs.declared.Side.the-variants.{Left, Right}
+use Rattle.geometry.specs.Axis.{axisOf}
+use Rattle.geometry.specs.Levels.{levels}
+use Rattle.geometry.specs.Region.{Region, rootRegion, sideOf, half}
+use Rattle.geometry.specs.Point.{inside, pointOf}
+use Rattle.geometry.proofs.AxisLaws.{axis-lt}
+use Rattle.geometry.proofs.RegionLaws.{Shape, root-shape, half-shape, inside-half}
+use Rattle.pool.specs.Layout.{capacityPlace, rootPlace, freePlace, offset, fieldOf}
+use Rattle.pool.specs.Capacity.{poolLength, capacityOf}
+use Rattle.pool.specs.Cell.{grantAt, cellOf, withCell}
+use Rattle.pool.proofs.LayoutLaws.{field-set-header}
+use Rattle.pool.proofs.CellLaws.{SameGrantWords, length-withCell, field-withCell-same, field-withCell-other, header-withCell, grantAt-same, grantAt-withCell-same}
+use Rattle.adt.specs.Node.{linkField, linkPlace}
+use Rattle.adt.specs.Insert.{Way, lost, blankAt, wayDown, descend, freeHead, nextFree, inserted}
+use Rattle.adt.proofs.Spells.{Tree, blank, node, cellsOf, Spells, spells-blank, spells-node, FreeChain, chain-more}
+use Rattle.adt.proofs.TreeLaws.{son, spells-son}
+use Rattle.adt.proofs.PartLaws.{Part, part-here, part-son}
+use Rattle.adt.proofs.NodeLaws.{Away, root-away, other-away, Hook, hook-root, hook-link, hook-within, hook-header, field-set-hook, hook-withCell}
+use Rattle.adt.proofs.FrameLaws.{chain-frame}
+use Rattle.adt.proofs.ExchangeLaws.{regionIn, exchanged, outside, exchanged-same, exchanged-put, part-outside, part-away, part-hook, Kept, exchanged-spells}
+use Rattle.adt.proofs.Linked.{Linked, linked-distinct, linked-upto, linked-capacity}
+
+pub record BlankPart (p : List ℕ) (n at : ℕ) (t : Tree) (g : Region) (link : ℕ) : Type 0 where
+  pub below : ℕ
+  pub part : Part n at t (suc below) link blank
+  pub inside : inside (regionIn part g) p ≡ true
+
+blank-son : {p : List ℕ} {n at k : ℕ} {l r : Tree} {g : Region} {link : ℕ} (s : Side)
+    → BlankPart p n (linkPlace k s) (son s l r) (half s g (axisOf (levels - n))) link → BlankPart p (suc n) at (node k l r) g link
+unfolding regionIn
+blank-son s b = record { below = b .below; part = part-son s (b .part); inside = b .inside }
+
+-- the end of a way that is not lost
+way-on : (t : Bool) (way : Way) (link : ℕ) → cond t way lost ≡ blankAt link → way ≡ blankAt link
+way-on true way link e = e
+way-on false way link e = absurd (let z : _≡_ {A = ℕ} 0 1 = cc in omega arith)
+
+blank-here : {p : List ℕ} {n at : ℕ} {g : Region} {link : ℕ} → inside g p ≡ true → at ≡ link → BlankPart p (suc n) at blank g link
+unfolding regionIn
+blank-here {p} {n} {at} {g} i e = subst (BlankPart p (suc n) at blank g) e (record { below = n; part = part-here; inside = i })
+
+pub wayDown-blank : {w : List ℕ} {c k : ℕ} {t : Tree} {g : Region} {link : ℕ} (p : List ℕ) (n at met : ℕ) → Spells w c n g k t → getD w at 0 ≡ k
+    → Shape g → inside g p ≡ true → wayDown w c p n at g met ≡ blankAt link → BlankPart p n at t g link
+unfolding wayDown
+wayDown-blank p zero at met sp e shape i found = absurd (let z : _≡_ {A = ℕ} 0 1 = cc in omega arith)
+wayDown-blank {w} {link = link} p (suc n) at met spells-blank e shape i found =
+    let here : blankAt at ≡ blankAt link = rw (eq-eqb (getD w at 0) 0 e) at found in
+    blank-here i (cc)
+wayDown-blank {w} {c} {link = link} p (suc n) at met (spells-node {g = g} {k = k} {l = l} {r = r} pos le j x y) e shape i found =
+    let a = axisOf (levels - n) in
+    let lt = axis-lt (levels - n) in
+    let s = sideOf g a (getD p a 0) in
+    let on : cond (leb k c && ltb met c) (wayDown w c p n (linkPlace k s) (half s g a) (suc met)) lost ≡ blankAt link = rw (e, ne-eqb k 0 (omega arith)) at found in
+    blank-son s
+    (wayDown-blank p n (linkPlace k s) (suc met) (spells-son s (spells-node pos le j x y)) refl (half-shape s g a shape lt) (inside-half g a shape lt p i)
+    (way-on (leb k c && ltb met c) (wayDown w c p n (linkPlace k s) (half s g a) (suc met)) link on))
+
+pub descend-blank : {w : List ℕ} {c : ℕ} {t : Tree} {link : ℕ} (p : List ℕ) → capacityOf w ≡ c → Spells w c (suc levels) rootRegion (getD w rootPlace 0) t
+    → inside rootRegion p ≡ true → descend w p ≡ blankAt link → BlankPart p (suc levels) rootPlace t rootRegion link
+unfolding descend
+descend-blank p cap sp i found = wayDown-blank p (suc levels) rootPlace 0 sp refl root-shape i (rw cap at found)
+
+-- the words with the cell stored, and with its link
+abbrev stored : List ℕ → Grant → List ℕ
+stored w g = withCell w (freeHead w) (cellOf 0 0 g)
+
+abbrev hung : List ℕ → ℕ → Grant → List ℕ
+hung w at g = set (stored w g) at (freeHead w)
+
+-- the words after an insertion at a place where a cell may hang
+module _ (w : List ℕ) (g : Grant) {c at : ℕ} (hook : Hook c at) (long : length w ≡ poolLength c) (pos : 0 < freeHead w) (le : freeHead w ≤ c) where
+  length-hung : length (hung w at g) ≡ poolLength c
+  length-hung = length-set (stored w g) at (freeHead w) ∙ length-withCell w (freeHead w) (cellOf 0 0 g) ∙ long
+
+  pub inserted-long : length (inserted w at g) ≡ poolLength c
+  unfolding inserted
+  inserted-long = length-set (hung w at g) freePlace (nextFree w) ∙ length-hung
+
+  pub inserted-capacity : getD (inserted w at g) capacityPlace 0 ≡ getD w capacityPlace 0
+  unfolding inserted
+  inserted-capacity =
+      getD-set-other (hung w at g) freePlace capacityPlace (nextFree w) 0 (omega arith)
+      ∙ getD-set-other (stored w g) at capacityPlace (freeHead w) 0 (hook-header capacityPlace hook (omega arith) (omega arith))
+      ∙ header-withCell w (freeHead w) (cellOf 0 0 g) refl capacityPlace (omega arith)
+
+  pub inserted-freeHead : freeHead (inserted w at g) ≡ nextFree w
+  unfolding inserted
+  inserted-freeHead = getD-set-same (hung w at g) freePlace (nextFree w) 0 (omega (arith, length-hung))
+
+  -- a place at which a cell may hang is not the free head's
+  not-free : {link : ℕ} → Hook c link → link ≢ freePlace
+  not-free other e = hook-header freePlace other (omega arith) (omega arith) (sym e)
+
+  -- where it hangs
+  pub inserted-here : getD (inserted w at g) at 0 ≡ freeHead w
+  unfolding inserted
+  inserted-here =
+      getD-set-other (hung w at g) freePlace at (nextFree w) 0 (not-free hook)
+      ∙ getD-set-same (stored w g) at (freeHead w) 0 (omega (arith, hook-within hook, length-withCell w (freeHead w) (cellOf 0 0 g)))
+
+  -- where others hang
+  pub inserted-other : {link : ℕ} → Hook c link → link ≢ at → Away link (freeHead w) → getD (inserted w at g) link 0 ≡ getD w link 0
+  unfolding inserted
+  inserted-other {link} other apart away =
+      getD-set-other (hung w at g) freePlace link (nextFree w) 0 (not-free other)
+      ∙ getD-set-other (stored w g) at link (freeHead w) 0 apart
+      ∙ hook-withCell w (freeHead w) (cellOf 0 0 g) refl pos other away
+
+  -- its own links are blank
+  pub inserted-links : (s : Side) → Away at (freeHead w) → getD (inserted w at g) (linkPlace (freeHead w) s) 0 ≡ 0
+  unfolding inserted fieldOf
+  inserted-links s away =
+      getD-set-other (hung w at g) freePlace (linkPlace (freeHead w) s) (nextFree w) 0 (not-free (hook-link s pos le))
+      ∙ getD-set-other (stored w g) at (linkPlace (freeHead w) s) (freeHead w) 0 (away s)
+      ∙ field-withCell-same w (freeHead w) (cellOf 0 0 g) refl c (linkField s) pos le long
+      ∙ go s
+    where
+      go : (s : Side) → getD (cellOf 0 0 g) (offset (linkField s)) 0 ≡ 0
+      go Left = refl
+      go Right = refl
+
+  -- the words of its grant, and those of others
+  pub inserted-words : SameGrantWords (stored w g) (inserted w at g) (freeHead w)
+  unfolding inserted
+  inserted-words f h =
+      field-set-header (hung w at g) freePlace (freeHead w) f (nextFree w) (omega arith)
+      ∙ field-set-hook (stored w g) (freeHead w) (freeHead w) f hook h
+
+  pub inserted-grant : GrantFits g → grantAt (inserted w at g) (freeHead w) ≡ g
+  inserted-grant fits = grantAt-same (stored w g) (inserted w at g) (freeHead w) inserted-words ∙ grantAt-withCell-same w c (freeHead w) 0 0 g pos le long fits
+
+  pub inserted-kept : (k : ℕ) → 0 < k → ¬ (k ≡ freeHead w) → SameGrantWords w (inserted w at g) k
+  unfolding inserted
+  inserted-kept k hk n f h =
+      field-set-header (hung w at g) freePlace k f (nextFree w) (omega arith)
+      ∙ field-set-hook (stored w g) k (freeHead w) f hook h
+      ∙ field-withCell-other w (freeHead w) (cellOf 0 0 g) refl k f hk pos n
+
+-- the first free cell
+pub record FirstFree (w : List ℕ) (c j k : ℕ) (ks : List ℕ) : Type 0 where
+  pub head : j ≡ k
+  pub pos : 0 < k
+  pub le : k ≤ c
+  pub rest : FreeChain w c (getD w (linkPlace k Left) 0) ks
+
+pub chain-first : {w : List ℕ} {c j k : ℕ} {ks : List ℕ} → FreeChain w c j (k ∷ ks) → FirstFree w c j k ks
+chain-first (chain-more pos le x) = record { head = refl; pos = pos; le = le; rest = x }
+
+pub record Inserted (w v : List ℕ) (c : ℕ) (t : Tree) (k : ℕ) (ks : List ℕ) (g : Grant) : Type 0 where
+  pub tree : Tree
+  pub linked : Linked v c tree ks
+  pub cells : Put k (cellsOf t) (cellsOf tree)
+  pub grant : grantAt v k ≡ g
+  pub others : (j : ℕ) → List·Memᴰ j (cellsOf t) → grantAt v j ≡ grantAt w j
+  -- the same of the words that spell them
+  pub grant-words : SameGrantWords (withCell w k (cellOf 0 0 g)) v k
+  pub other-words : (j : ℕ) → List·Memᴰ j (cellsOf t) → SameGrantWords w v j
+
+-- the parts of the law, with the new cell named as the free head
+module _ {w : List ℕ} {c : ℕ} {t : Tree} {ks : List ℕ} {g : Grant} {at : ℕ} (h : Linked w c t (freeHead w ∷ ks)) (fits : GrantFits g)
+    (b : BlankPart (pointOf g) (suc levels) rootPlace t rootRegion at) where
+  own : FirstFree w c (freeHead w) (freeHead w) ks
+  own = chain-first (h .free)
+
+  outside-cells : (j : ℕ) → List·Memᴰ j (outside (b .part)) → List·Memᴰ j (cellsOf t)
+  unfolding cellsOf
+  outside-cells j m = perm-mem (part-outside (b .part)) m
+
+  upto-outside : Upto c (outside (b .part))
+  upto-outside j m = linked-upto h j (Memᴰ·append-left (freeHead w ∷ ks) (outside-cells j m))
+
+  distinct-outside : Distinct (outside (b .part))
+  unfolding cellsOf
+  distinct-outside = perm-distinct (perm-sym (part-outside (b .part))) (distinct-left (cellsOf t) (freeHead w ∷ ks) (linked-distinct h))
+
+  hook : Hook c at
+  hook = part-hook (b .part) hook-root upto-outside
+
+  -- neither the new cell nor a free one is in the tree
+  not-outside : (j : ℕ) → List·Memᴰ j (freeHead w ∷ ks) → ¬ List·Memᴰ j (outside (b .part))
+  not-outside j m i = distinct-apart (cellsOf t) (linked-distinct h) j (outside-cells j i) m
+
+  free-away : (j : ℕ) → List·Memᴰ j (freeHead w ∷ ks) → Away at j
+  free-away j m = part-away (b .part) j (root-away j) (linked-upto h j (Memᴰ·append-right (cellsOf t) m) .0) upto-outside (not-outside j m)
+
+  -- another cell's link
+  kept-link : (j : ℕ) (s : Side) → 0 < j → j ≤ c → ¬ (j ≡ freeHead w) → linkPlace j s ≢ at → getD (inserted w at g) (linkPlace j s) 0 ≡ getD w (linkPlace j s) 0
+  kept-link j s pos le n apart =
+      inserted-other w g hook (h .long) (own .pos) (own .le) (hook-link s pos le) apart (other-away j (freeHead w) s pos (own .pos) n)
+
+  kept-grant : (j : ℕ) → 0 < j → ¬ (j ≡ freeHead w) → grantAt (inserted w at g) j ≡ grantAt w j
+  kept-grant j pos n = grantAt-same w (inserted w at g) j (inserted-kept w g hook (h .long) (own .pos) (own .le) j pos n)
+
+  kept-outside : Kept w (inserted w at g) c rootPlace at (outside (b .part))
+  kept-outside = record {
+    distinct = distinct-outside;
+    upto = upto-outside;
+    away = λ j m. root-away j;
+    same = λ j m.
+        let n : ¬ (j ≡ freeHead w) = λ e. not-outside (freeHead w) (List·Memᴰ·head refl) (Memᴰ·cast (sym e) m) in
+        let bounds = upto-outside j m in
+        record { links = λ s apart. kept-link j s (bounds .0) (bounds .1) n apart; grant = kept-grant j (bounds .0) n };
+    top = λ apart. inserted-other w g hook (h .long) (own .pos) (own .le) hook-root apart (root-away (freeHead w));
+  }
+
+  grown : Tree
+  grown = exchanged (b .part) (node (freeHead w) blank blank)
+
+  spells-new : Spells (inserted w at g) c (suc (b .below)) (regionIn (b .part) rootRegion) (getD (inserted w at g) at 0) (node (freeHead w) blank blank)
+  spells-new =
+      let away = free-away (freeHead w) (List·Memᴰ·head refl) in
+      rw (inserted-here w g hook (h .long) (own .pos) (own .le))
+      (spells-node {n = b .below} {g = regionIn (b .part) rootRegion} {l = blank} {r = blank} (own .pos) (own .le)
+      (rw (inserted-grant w g hook (h .long) (own .pos) (own .le) fits) (b .inside))
+      (rw (inserted-links w g hook (h .long) (own .pos) (own .le) Left away) spells-blank)
+      (rw (inserted-links w g hook (h .long) (own .pos) (own .le) Right away) spells-blank))
+
+  put-new : Put (freeHead w) (cellsOf t) (cellsOf grown)
+  unfolding grown cellsOf
+  put-new = rw (exchanged-same (b .part)) at (exchanged-put (b .part) (freeHead w) blank (node (freeHead w) blank blank) put-first)
+
+  chain-rest : FreeChain (inserted w at g) c (freeHead (inserted w at g)) ks
+  unfolding fieldOf
+  chain-rest =
+      rw (inserted-freeHead w g hook (h .long) (own .pos) (own .le))
+      (chain-frame
+      (λ j m.
+      let bounds = linked-upto h j (Memᴰ·append-right (cellsOf t) (List·Memᴰ·tail m)) in
+      let n : ¬ (j ≡ freeHead w) = λ e. distinct-apart (freeHead w ∷ []) (distinct-right (cellsOf t) (linked-distinct h)) j (List·Memᴰ·head e) m in
+      kept-link j Left (bounds .0) (bounds .1) n (free-away j (List·Memᴰ·tail m) Left))
+      (own .rest))
+
+  linked-new : Linked (inserted w at g) c grown ks
+  unfolding grown
+  linked-new = record {
+    long = inserted-long w g hook (h .long) (own .pos) (own .le);
+    capacity = inserted-capacity w g hook (h .long) (own .pos) (own .le) ∙ h .capacity;
+    spells = exchanged-spells (b .part) (node (freeHead w) blank blank) refl (h .spells) kept-outside spells-new;
+    free = chain-rest;
+    cells = perm-trans (h .cells) (perm-trans (perm-sym (put-perm (put-seam (cellsOf t) ks))) (put-perm (put-append-left ks put-new)));
+  }
+
+  words-kept : (j : ℕ) → List·Memᴰ j (cellsOf t) → SameGrantWords w (inserted w at g) j
+  words-kept j m =
+      inserted-kept w g hook (h .long) (own .pos) (own .le) j (linked-upto h j (Memᴰ·append-left (freeHead w ∷ ks) m) .0)
+      (λ e. distinct-apart (cellsOf t) (linked-distinct h) j m (List·Memᴰ·head e))
+
+  inserted-all : Inserted w (inserted w at g) c t (freeHead w) ks g
+  inserted-all = record {
+    tree = grown;
+    linked = linked-new;
+    cells = put-new;
+    grant = inserted-grant w g hook (h .long) (own .pos) (own .le) fits;
+    others = λ j m. grantAt-same w (inserted w at g) j (words-kept j m);
+    grant-words = inserted-words w g hook (h .long) (own .pos) (own .le);
+    other-words = words-kept;
+  }
+
+pub insert-keeps-linked : {w : List ℕ} {c : ℕ} {t : Tree} {k : ℕ} {ks : List ℕ} {g : Grant} {at : ℕ} → Linked w c t (k ∷ ks) → GrantFits g
+    → inside rootRegion (pointOf g) ≡ true → descend w (pointOf g) ≡ blankAt at → Inserted w (inserted w at g) c t k ks g
+insert-keeps-linked {w} {c} {t} {k} {ks} {g} {at} h fits i found =
+    let e : freeHead w ≡ k = chain-first (h .free) .head in
+    let same : Linked w c t (freeHead w ∷ ks) = rw e h in
+    let b = descend-blank (pointOf g) (linked-capacity h) (h .spells) i found in
+    rw e at (inserted-all same fits b)
