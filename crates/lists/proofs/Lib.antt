@@ -6,3 +6,4 @@ pub mod RangeLaws
 pub mod DistinctLaws
 pub mod PermLaws
 pub mod CountLaws
+pub mod SortLaws
