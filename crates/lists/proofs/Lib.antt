@@ -7,3 +7,4 @@ pub mod DistinctLaws
 pub mod PermLaws
 pub mod CountLaws
 pub mod SortLaws
+pub mod KeyLaws

@@ -1,0 +1,34 @@
+-- Lists whose elements are told apart by a key.
+--   distinct-key         where the keys differ, elements of one key are one
+--   any-mem, mem-any     a test passes for one of a list exactly if one in it passes
+-- Assumes nothing.
+use mathlib.Core.Path.{_≡_, refl, sym, ap, _∙_}
+use mathlib.Core.Bool.{Bool, true, false, _||_, false≢true}
+use mathlib.Core.List.{List, [], _∷_, map, List·Memᴰ, List·Memᴰ·head, List·Memᴰ·tail, Memᴰ·map, Memᴰ·cast}
+use Rattle.lists.specs.Tests.{any}
+use Rattle.lists.proofs.DistinctLaws.{Distinct, distinct-more}
+
+pub distinct-key : {A K : Type 0} (key : A → K) {xs : List A} → Distinct (map key xs) → (x y : A) → List·Memᴰ x xs → List·Memᴰ y xs → key x ≡ key y → x ≡ y
+distinct-key key {xs = x ∷ xs} (distinct-more n d) y z (List·Memᴰ·head e) (List·Memᴰ·head f) q = e ∙ sym f
+distinct-key key {xs = x ∷ xs} (distinct-more n d) y z (List·Memᴰ·head e) (List·Memᴰ·tail j) q = absurd (n (Memᴰ·cast (ap key (sym e) ∙ q) (Memᴰ·map key j)))
+distinct-key key {xs = x ∷ xs} (distinct-more n d) y z (List·Memᴰ·tail i) (List·Memᴰ·head f) q = absurd (n (Memᴰ·cast (ap key (sym f) ∙ sym q) (Memᴰ·map key i)))
+distinct-key key {xs = x ∷ xs} (distinct-more n d) y z (List·Memᴰ·tail i) (List·Memᴰ·tail j) q = distinct-key key d y z i j q
+
+module _ {A : Type 0} (t : A → Bool) where
+  pub any-mem : (xs : List A) → any t xs ≡ true → (x : A) × List·Memᴰ x xs × (t x ≡ true)
+  unfolding any
+  any-mem [] e = absurd (false≢true e)
+  any-mem (x ∷ xs) e = go (t x) refl e (any-mem xs)
+    where
+      go : (b : Bool) → t x ≡ b → b || any t xs ≡ true → (any t xs ≡ true → (y : A) × List·Memᴰ y xs × (t y ≡ true)) → (y : A) × List·Memᴰ y (x ∷ xs) × (t y ≡ true)
+      go true p q f = (x, List·Memᴰ·head refl, p)
+      go false p q f = let r = f q in (r .0, List·Memᴰ·tail (r .1), r .2)
+
+  pub mem-any : {x : A} {xs : List A} → List·Memᴰ x xs → t x ≡ true → any t xs ≡ true
+  unfolding any
+  mem-any {xs = y ∷ ys} (List·Memᴰ·head e) p = rw (ap t (sym e) ∙ p)
+  mem-any {xs = y ∷ ys} (List·Memᴰ·tail m) p = go (t y) (mem-any m p)
+    where
+      go : (b : Bool) → any t ys ≡ true → b || any t ys ≡ true
+      go true e = refl
+      go false e = e
