@@ -1,3 +1,4 @@
 -- Laws of the model, for the crates above.
 pub mod OverlapLaws
 pub mod DecideLaws
+pub mod Simulation
