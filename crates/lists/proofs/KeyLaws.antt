@@ -1,11 +1,13 @@
 -- Lists whose elements are told apart by a key.
 --   distinct-key         where the keys differ, elements of one key are one
+--   distinct-keys-keep   the keys of what is kept differ
 --   any-mem, mem-any     a test passes for one of a list exactly if one in it passes
 -- Assumes nothing.
 use mathlib.Core.Path.{_≡_, refl, sym, ap, _∙_}
-use mathlib.Core.Bool.{Bool, true, false, _||_, false≢true}
-use mathlib.Core.List.{List, [], _∷_, map, List·Memᴰ, List·Memᴰ·head, List·Memᴰ·tail, Memᴰ·map, Memᴰ·cast}
-use Rattle.lists.specs.Tests.{any}
+use mathlib.Core.Bool.{Bool, true, false, cond, _||_, false≢true}
+use mathlib.Core.List.{List, [], _∷_, map, List·Memᴰ, List·Memᴰ·head, List·Memᴰ·tail, Memᴰ·map, Memᴰ·of-map, Memᴰ·cast}
+use Rattle.lists.specs.Tests.{keep, any}
+use Rattle.lists.proofs.TestLaws.{keep-mem}
 use Rattle.lists.proofs.DistinctLaws.{Distinct, distinct-more}
 
 pub distinct-key : {A K : Type 0} (key : A → K) {xs : List A} → Distinct (map key xs) → (x y : A) → List·Memᴰ x xs → List·Memᴰ y xs → key x ≡ key y → x ≡ y
@@ -13,6 +15,15 @@ distinct-key key {xs = x ∷ xs} (distinct-more n d) y z (List·Memᴰ·head e) 
 distinct-key key {xs = x ∷ xs} (distinct-more n d) y z (List·Memᴰ·head e) (List·Memᴰ·tail j) q = absurd (n (Memᴰ·cast (ap key (sym e) ∙ q) (Memᴰ·map key j)))
 distinct-key key {xs = x ∷ xs} (distinct-more n d) y z (List·Memᴰ·tail i) (List·Memᴰ·head f) q = absurd (n (Memᴰ·cast (ap key (sym f) ∙ sym q) (Memᴰ·map key i)))
 distinct-key key {xs = x ∷ xs} (distinct-more n d) y z (List·Memᴰ·tail i) (List·Memᴰ·tail j) q = distinct-key key d y z i j q
+
+pub distinct-keys-keep : {A K : Type 0} (key : A → K) (t : A → Bool) (xs : List A) → Distinct (map key xs) → Distinct (map key (keep t xs))
+unfolding keep
+distinct-keys-keep key t [] d = d
+distinct-keys-keep {A} key t (x ∷ xs) (distinct-more n d) = go (t x) (distinct-keys-keep key t xs d)
+  where
+    go : (b : Bool) → Distinct (map key (keep t xs)) → Distinct (map key (cond b (x ∷ keep t xs) (keep t xs)))
+    go true r = distinct-more (λ m. let o = Memᴰ·of-map key (keep t xs) m in n (Memᴰ·cast (sym (o .2)) (Memᴰ·map key (keep-mem t xs (o .0) (o .1) .0)))) r
+    go false r = r
 
 module _ {A : Type 0} (t : A → Bool) where
   pub any-mem : (xs : List A) → any t xs ≡ true → (x : A) × List·Memᴰ x xs × (t x ≡ true)

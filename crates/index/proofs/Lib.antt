@@ -1,0 +1,2 @@
+-- Laws of the calls, for the crates above.
+pub mod Represents
