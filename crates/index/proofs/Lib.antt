@@ -1,2 +1,4 @@
 -- Laws of the calls, for the crates above.
 pub mod Represents
+pub mod QueryLaws
+pub mod StartLaws

@@ -1,6 +1,7 @@
 -- From one call to a list of calls: a relation that each call keeps gives equal answers over every list (specs/Histories).
 --   Agrees R x y        the steps x and y are told the same, and leave states that R relates
 --   refusing-agrees     two calls whose first fault is the same agree, if they do where neither is refused
+--   accepting-agrees    a call that meets no fault agrees with what its step, accepted, agrees with
 --   calls-refine        two machines whose calls agree are told the same by every list of calls, and end in related states
 -- Assumes nothing: that each call keeps R is a parameter.
 use Prim.Native.Nat.{ℕ}
@@ -24,6 +25,11 @@ refusing-agrees R {w} {s} cs ds lent x y r e f = rw e (go (firstFault ds) f)
     go : (o : Option Fault) → (o ≡ none → Agrees R x y) → Agrees R (stepBy o w lent x) (stepBy o s lent y)
     go none f = f refl
     go (some fault) f = record { same = refl; related = r }
+
+pub accepting-agrees : {W S : Type 0} (R : W → S → Type 0) (cs : List Cause) (w : W) (lent : List ℕ) (x : Step W) (y : Step S) → firstFault cs ≡ none
+    → Agrees R x y → Agrees R (refusing cs w lent x) y
+unfolding refusing
+accepting-agrees R cs w lent x y e a = rw e a
 
 module _ {W S : Type 0} (concrete : W → Call → Step W) (model : S → Call → Step S) (R : W → S → Type 0) (Fits : Call → Type 0)
     (call-refines : (w : W) (s : S) (c : Call) → Fits c → R w s → Agrees R (concrete w c) (model s c)) where
