@@ -14,3 +14,4 @@ pub mod FreshLaws
 pub mod ExchangeLaws
 pub mod Linked
 pub mod InsertLaws
+pub mod ChainLaws

@@ -2,3 +2,5 @@
 pub mod Represents
 pub mod QueryLaws
 pub mod StartLaws
+pub mod NumberLaws
+pub mod GrantLaws

@@ -1,9 +1,9 @@
 -- When the words of a pool stand for a plain book.
 --   grantsOf w t           the grants in the cells of a tree, in the tree's order
 --   CarriesFields w k g    the words of the cell k, from the number on, are those of g
---   Carried w k            the cell's grant has values that fit, a number above 0 and a box that is not reversed, and its words spell it
---   Represents w b         the links hold together (adt/proofs/Linked), each cell of the tree is so, no two have one number, and their grants,
---                          sorted, are the live ones
+--   Carried w k g          they are, and g has values that fit, a number above 0 and a box that is not reversed
+--   Represents w b         the links hold together (adt/proofs/Linked), each cell of the tree carries such a grant, no two of one number,
+--                          and these grants, sorted, are the live ones
 --   represents-pool, represents-capacity     no fault 1; C is the book's
 --   represents-fits        the grants in the cells fit
 --   represents-live        the live grants are those in the cells
@@ -54,11 +54,11 @@ grantsOf w t = map (grantAt w) (cellsOf t)
 abbrev pub CarriesFields : List ℕ → ℕ → Grant → Type 0
 CarriesFields w k g = (f : Field) → offset field.Number ≤ offset f → fieldOf w k f ≡ getD (cellOf 0 0 g) (offset f) 0
 
-pub record Carried (w : List ℕ) (k : ℕ) : Type 0 where
-  pub fits : GrantFits (grantAt w k)
-  pub numbered : 1 ≤ grantAt w k .number
-  pub upright : reversedBox (grantAt w k .bounds) ≡ false
-  pub words : CarriesFields w k (grantAt w k)
+pub record Carried (w : List ℕ) (k : ℕ) (g : Grant) : Type 0 where
+  pub fits : GrantFits g
+  pub numbered : 1 ≤ g .number
+  pub upright : reversedBox (g .bounds) ≡ false
+  pub words : CarriesFields w k g
 
 pub record Represents (w : List ℕ) (b : Book) : Type 0 where
   pub tree : Tree
@@ -66,7 +66,7 @@ pub record Represents (w : List ℕ) (b : Book) : Type 0 where
   pub linked : Linked w (b .capacity) tree free
   pub some : 1 ≤ b .capacity
   pub few : b .capacity ≤ maxGrants
-  pub carried : (k : ℕ) → List·Memᴰ k (cellsOf tree) → Carried w k
+  pub carried : (k : ℕ) → List·Memᴰ k (cellsOf tree) → Carried w k (grantAt w k)
   pub distinct : Distinct (map numberOf (grantsOf w tree))
   pub live : sortBy numberOf (grantsOf w tree) ≡ b .live
 
@@ -106,7 +106,7 @@ module _ {w : List ℕ} {b : Book} (h : Represents w b) where
   represents-count =
       omega (arith, linked-count (h .linked), cells-size (h .tree), length-map (cellsOf (h .tree)) (grantAt w), length-sortBy numberOf (grantsOf w (h .tree)), ap length (h .live))
 
-  cells-distinct : Distinct (cellsOf (h .tree))
+  pub cells-distinct : Distinct (cellsOf (h .tree))
   cells-distinct = distinct-left (cellsOf (h .tree)) (h .free) (linked-distinct (h .linked))
 
   pub represents-finds : (q : Region) → Finds w q (h .tree) (search w q)

@@ -2,10 +2,13 @@
 --   distinct-key         where the keys differ, elements of one key are one
 --   distinct-keys-keep   the keys of what is kept differ
 --   any-mem, mem-any     a test passes for one of a list exactly if one in it passes
+--   any-keep             or if some are kept
 -- Assumes nothing.
 use mathlib.Core.Path.{_≡_, refl, sym, ap, _∙_}
-use mathlib.Core.Bool.{Bool, true, false, cond, _||_, false≢true}
+use mathlib.Core.Bool.{Bool, true, false, not, cond, _||_, false≢true}
 use mathlib.Core.List.{List, [], _∷_, map, List·Memᴰ, List·Memᴰ·head, List·Memᴰ·tail, Memᴰ·map, Memᴰ·of-map, Memᴰ·cast}
+use lib.Dec.{eqb, eqb·suc-zero}
+use lib.ListN.{length}
 use Rattle.lists.specs.Tests.{keep, any}
 use Rattle.lists.proofs.TestLaws.{keep-mem}
 use Rattle.lists.proofs.DistinctLaws.{Distinct, distinct-more}
@@ -34,6 +37,15 @@ module _ {A : Type 0} (t : A → Bool) where
       go : (b : Bool) → t x ≡ b → b || any t xs ≡ true → (any t xs ≡ true → (y : A) × List·Memᴰ y xs × (t y ≡ true)) → (y : A) × List·Memᴰ y (x ∷ xs) × (t y ≡ true)
       go true p q f = (x, List·Memᴰ·head refl, p)
       go false p q f = let r = f q in (r .0, List·Memᴰ·tail (r .1), r .2)
+
+  pub any-keep : (xs : List A) → any t xs ≡ not (eqb (length (keep t xs)) 0)
+  unfolding any keep
+  any-keep [] = refl
+  any-keep (x ∷ xs) = go (t x) (any-keep xs)
+    where
+      go : (b : Bool) → any t xs ≡ not (eqb (length (keep t xs)) 0) → (b || any t xs) ≡ not (eqb (length (cond b (x ∷ keep t xs) (keep t xs))) 0)
+      go true e = rw (eqb·suc-zero (length (keep t xs)))
+      go false e = e
 
   pub mem-any : {x : A} {xs : List A} → List·Memᴰ x xs → t x ≡ true → any t xs ≡ true
   unfolding any

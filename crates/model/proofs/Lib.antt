@@ -2,3 +2,4 @@
 pub mod OverlapLaws
 pub mod DecideLaws
 pub mod Simulation
+pub mod RefusalLaws
