@@ -1,8 +1,10 @@
 -- A grant that is hung where its point leads: the tree then has the free head's cell in it, and all else stays.
---   BlankPart w p n at t g link    the place `link` is blank in the tree t, and the point p lies in the region there
+--   BlankPart p n at t g link      the place `link` is blank in the tree t, which hangs at the place `at`, and the point p lies in the
+--                                  region there
 --   wayDown-blank, descend-blank   the way down ends at such a place
 --   inserted-*                     reads of the words then
---   Inserted                       what an insertion leaves
+--   FirstFree, chain-first         the first cell of a free chain
+--   Inserted w v c t k ks g        what an insertion leaves: the words v, with the grant g in the cell k among those of t, and ks free
 --   insert-keeps-linked            it leaves that
 -- Assumes nothing.
 use Prim.Native.Nat.{ℕ, zero, suc, _-_, _<_, _≤_}
@@ -37,9 +39,10 @@ use Rattle.adt.specs.Insert.{Way, lost, blankAt, wayDown, descend, freeH
 use Rattle.adt.proofs.Spells.{Tree, blank, node, cellsOf, Spells, spells-blank, spells-node, FreeChain, chain-more}
 use Rattle.adt.proofs.TreeLaws.{son, spells-son}
 use Rattle.adt.proofs.PartLaws.{Part, part-here, part-son}
-use Rattle.adt.proofs.NodeLaws.{Away, root-away, other-away, Hook, hook-root, hook-link, hook-within, hook-header, field-set-hook, hook-withCell}
+use Rattle.adt.proofs.NodeLaws.{Away, root-away, other-away, Hook, hook-root, hook-link, hook-within, hook-header, hook-not-free, field-set-hook, hook-withCell}
 use Rattle.adt.proofs.FrameLaws.{chain-frame}
-use Rattle.adt.proofs.ExchangeLaws.{regionIn, exchanged, outside, exchanged-same, exchanged-put, part-outside, part-away, part-hook, Kept, exchanged-spells}
+use Rattle.adt.proofs.PartRegion.{regionIn}
+use Rattle.adt.proofs.ExchangeLaws.{exchanged, outside, exchanged-same, exchanged-put, part-outside, part-away, part-hook, Kept, exchanged-spells}
 use Rattle.adt.proofs.Linked.{Linked, linked-distinct, linked-upto, linked-capacity}
 
 pub record BlankPart (p : List ℕ) (n at : ℕ) (t : Tree) (g : Region) (link : ℕ) : Type 0 where
@@ -109,22 +112,18 @@ module _ (w : List ℕ) (g : Grant) {c at : ℕ} (hook : Hook c at) (long : leng
   unfolding inserted
   inserted-freeHead = getD-set-same (hung w at g) freePlace (nextFree w) 0 (omega (arith, length-hung))
 
-  -- a place at which a cell may hang is not the free head's
-  not-free : {link : ℕ} → Hook c link → link ≢ freePlace
-  not-free other e = hook-header freePlace other (omega arith) (omega arith) (sym e)
-
   -- where it hangs
   pub inserted-here : getD (inserted w at g) at 0 ≡ freeHead w
   unfolding inserted
   inserted-here =
-      getD-set-other (hung w at g) freePlace at (nextFree w) 0 (not-free hook)
+      getD-set-other (hung w at g) freePlace at (nextFree w) 0 (hook-not-free hook)
       ∙ getD-set-same (stored w g) at (freeHead w) 0 (omega (arith, hook-within hook, length-withCell w (freeHead w) (cellOf 0 0 g)))
 
   -- where others hang
   pub inserted-other : {link : ℕ} → Hook c link → link ≢ at → Away link (freeHead w) → getD (inserted w at g) link 0 ≡ getD w link 0
   unfolding inserted
   inserted-other {link} other apart away =
-      getD-set-other (hung w at g) freePlace link (nextFree w) 0 (not-free other)
+      getD-set-other (hung w at g) freePlace link (nextFree w) 0 (hook-not-free other)
       ∙ getD-set-other (stored w g) at link (freeHead w) 0 apart
       ∙ hook-withCell w (freeHead w) (cellOf 0 0 g) refl pos other away
 
@@ -132,7 +131,7 @@ module _ (w : List ℕ) (g : Grant) {c at : ℕ} (hook : Hook c at) (long : leng
   pub inserted-links : (s : Side) → Away at (freeHead w) → getD (inserted w at g) (linkPlace (freeHead w) s) 0 ≡ 0
   unfolding inserted fieldOf
   inserted-links s away =
-      getD-set-other (hung w at g) freePlace (linkPlace (freeHead w) s) (nextFree w) 0 (not-free (hook-link s pos le))
+      getD-set-other (hung w at g) freePlace (linkPlace (freeHead w) s) (nextFree w) 0 (hook-not-free {c = c} (hook-link s pos le))
       ∙ getD-set-other (stored w g) at (linkPlace (freeHead w) s) (freeHead w) 0 (away s)
       ∙ field-withCell-same w (freeHead w) (cellOf 0 0 g) refl c (linkField s) pos le long
       ∙ go s

@@ -15,3 +15,8 @@ pub mod ExchangeLaws
 pub mod Linked
 pub mod InsertLaws
 pub mod ChainLaws
+pub mod FollowLaws
+pub mod UnlinkLaws
+pub mod RemoveLaws
+pub mod LiveLaws
+pub mod CarriesLaws

@@ -1,9 +1,10 @@
 -- Laws of the places at which cells hang, and of stores there.
 --   link-injective                  two links' places are equal only if cell and side are
+--   sides-apart                     the links of a cell are two
 --   Away at k, LinkOf ks at         the place is no link of the cell k; it is a link of one of the cells ks
 --   link-away, root-away, other-away     places that are no link of a cell
 --   Hook c at                       a place at which a cell may hang: the root's, or a link of one of the cells 1 to c
---   hook-within, hook-header        it lies in the pool, and is no other word of the header
+--   hook-within, hook-header, hook-not-free     it lies in the pool, and is no other word of the header
 --   field-set-hook                  a store there leaves the words of every grant
 --   hook-withCell                   a store of a cell leaves the places that are none of its links
 -- Assumes nothing.
@@ -18,7 +19,7 @@ use Rattle.geometry.specs.declared.Side.{Side}
 use Rattle.geometry.specs.declared.Side.the-variants.{Left, Right}
 use Rattle.pool.specs.declared.Field.{Field}
 use Rattle.pool.specs.declared.Field.the-variants.{Number}
-use Rattle.pool.specs.Layout.{rootPlace, headerWords, cellWords, offset, fieldOf}
+use Rattle.pool.specs.Layout.{rootPlace, freePlace, headerWords, cellWords, offset, place, fieldOf}
 use Rattle.pool.specs.Capacity.{poolLength}
 use Rattle.pool.specs.Cell.{withCell}
 use Rattle.pool.proofs.LayoutLaws.{place-injective, place-past-header, place-within, field-set-other-field, field-set-header}
@@ -35,6 +36,10 @@ pub link-injective : (j k : ℕ) (s t : Side) → 0 < j → 0 < k → linkPlace 
 link-injective j k s t hj hk e =
     let r = place-injective j k (linkField s) (linkField t) hj hk e in
     (r .0, side-offset s t (r .1))
+
+pub sides-apart : (k : ℕ) → linkPlace k Left ≢ linkPlace k Right
+unfolding place
+sides-apart k = omega arith
 
 -- the place is no link of the cell k
 abbrev pub Away : ℕ → ℕ → Type 0
@@ -75,6 +80,9 @@ hook-within {c} (hook-link {k = k} s pos le) = place-within c k (linkField s) po
 pub hook-header : {c at : ℕ} (i : ℕ) → Hook c at → i < headerWords → i ≢ rootPlace → i ≢ at
 hook-header i hook-root h n = n
 hook-header i (hook-link {k = k} s pos le) h n = omega (arith, place-past-header k (linkField s))
+
+pub hook-not-free : {c at : ℕ} → Hook c at → at ≢ freePlace
+hook-not-free hook e = hook-header freePlace hook (omega arith) (omega arith) (sym e)
 
 link-before-number : (s : Side) → offset (linkField s) < 2
 link-before-number Left = omega arith

@@ -7,7 +7,8 @@
 --   put-put                              of two that are put, either may be put first
 --   put-map, length-put, distinct-put, put-distinct
 --   perm-refl, perm-sym, perm-trans      Perm is an equivalence
---   put-perm, perm-swap, perm-append     one put first; two parts exchanged; a part in another order
+--   put-perm, perm-cons, perm-exchange, perm-swap, perm-append     one put first; the first kept; the first two exchanged; two parts
+--                                        exchanged; a part in another order
 --   perm-mem, perm-map, length-perm, perm-distinct
 -- Assumes nothing.
 use Prim.Native.Nat.{suc}
@@ -89,6 +90,12 @@ module _ {A : Type 0} where
   pub perm-refl : (xs : List A) → Perm xs xs
   perm-refl [] = perm-none
   perm-refl (x ∷ xs) = perm-more (perm-refl xs) put-first
+
+  pub perm-cons : (x : A) {xs ys : List A} → Perm xs ys → Perm (x ∷ xs) (x ∷ ys)
+  perm-cons x p = perm-more p put-first
+
+  pub perm-exchange : (x y : A) (xs : List A) → Perm (x ∷ y ∷ xs) (y ∷ x ∷ xs)
+  perm-exchange x y xs = perm-more (perm-refl (y ∷ xs)) (put-later put-first)
 
   pub put-perm : {x : A} {xs ys : List A} → Put x xs ys → Perm (x ∷ xs) ys
   put-perm {xs = xs} p = perm-more (perm-refl xs) p

@@ -72,11 +72,11 @@ grantAt-same w v k same =
     cc (same Number (omega arith), same RankKind (omega arith), same StaffFrom (omega arith), same StaffTo (omega arith), same DoorFrom (omega arith), same DoorTo (omega arith), same QuarterFrom (omega arith), same QuarterTo (omega arith))
 
 -- rank and kind from their word
-rank-word : (r : ℕ) (k : Kind) → r < 256 → (r * 2 + kindNumber k) / 2 % 256 ≡ r
+pub rank-word : (r : ℕ) (k : Kind) → r < 256 → (r * 2 + kindNumber k) / 2 % 256 ≡ r
 rank-word r Bars h = omega arith
 rank-word r Opens h = omega arith
 
-kind-word : (r : ℕ) (k : Kind) → kindOf ((r * 2 + kindNumber k) % 2) ≡ k
+pub kind-word : (r : ℕ) (k : Kind) → kindOf ((r * 2 + kindNumber k) % 2) ≡ k
 kind-word r Bars = ap kindOf (let e : (r * 2 + 0) % 2 ≡ 0 = omega arith in e)
 kind-word r Opens = ap kindOf (let e : (r * 2 + 1) % 2 ≡ 1 = omega arith in e)
 

@@ -5,3 +5,4 @@ pub mod CellLaws
 pub mod CapacityLaws
 pub mod CapacitySteps
 pub mod FreshLaws
+pub mod GrantWordsLaws

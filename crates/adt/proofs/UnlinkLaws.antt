@@ -1,0 +1,261 @@
+-- The words once an unwanted cell is unlinked: what then hangs at its place has the other cells of its part.
+--   Unlinked w x c n at g k js    what unlinking the cell k leaves, with x the words then: at the place `at`, where a part with the cells
+--                                 js hung, a tree with the same cells but k is spelled, and all else stays
+--   unlinked-leaf                 a terminal cell is cut off
+--   unlinked-inner                a terminal cell below it takes its place
+-- Assumes nothing.
+use Prim.Native.Nat.{ℕ, suc, _<_, _≤_}
+use mathlib.Core.Logic.{_≢_}
+use mathlib.Core.Path.{_≡_, refl, sym, _∙_}
+use mathlib.Core.List.{List, [], _∷_, _++_, List·Memᴰ, List·Memᴰ·head, List·Memᴰ·tail, Memᴰ·append-left, Memᴰ·append-right, Memᴰ·cast}
+use native.Mathlib.Omega.{arith}
+use lib.ListN.{length, getD, set, length-set}
+use lib.Seq.{getD-set-same, getD-set-other}
+use borrow.Author.Tests.{eq-eqb, ne-eqb}
+use Rattle.lists.proofs.DistinctLaws.{Distinct, Upto, distinct-right, distinct-apart}
+use Rattle.lists.proofs.PermLaws.{put-seam, put-perm, Perm, perm-refl, perm-sym, perm-trans, perm-cons, perm-exchange, perm-append, perm-mem, perm-distinct}
+use Rattle.geometry.specs.declared.Side.{Side}
+use Rattle.geometry.specs.declared.Side.the-variants.{Left, Right}
+use Rattle.geometry.specs.Region.{Region}
+use Rattle.geometry.proofs.RegionLaws.{Shape}
+use Rattle.pool.specs.Layout.{rootPlace, headerWords}
+use Rattle.pool.specs.Capacity.{poolLength}
+use Rattle.pool.proofs.CellLaws.{SameGrantWords, grantAt-same}
+use Rattle.adt.specs.Node.{linkPlace}
+use Rattle.adt.specs.Remove.{replaced, unlinked}
+use Rattle.adt.proofs.Spells.{Tree, blank, node, cellsOf, Spells, spells-blank}
+use Rattle.adt.proofs.TreeLaws.{son, cells-upto, cells-inside}
+use Rattle.adt.proofs.PartLaws.{Part, part-here, part-son}
+use Rattle.adt.proofs.NodeLaws.{sides-apart, Away, root-away, other-away, link-away, Hook, hook-link, hook-within, hook-header, field-set-hook}
+use Rattle.adt.proofs.FrameLaws.{SameNode, spells-frame, inside-same}
+use Rattle.adt.proofs.ExchangeLaws.{other, withSon, withSon-cells, spells-withSon, exchanged, outside, exchanged-cells, part-son-link, spells-parts, part-outside, part-hook, Kept, exchanged-spells}
+
+pub record Unlinked (w x : List ℕ) (c n at : ℕ) (g : Region) (k : ℕ) (js : List ℕ) : Type 0 where
+  pub tree : Tree
+  pub cells : Perm (k ∷ cellsOf tree) js
+  pub spells : Spells x c n g (getD x at 0) tree
+  pub words : (j : ℕ) → SameGrantWords w x j
+  pub long : length x ≡ length w
+  pub header : (i : ℕ) → i < headerWords → i ≢ rootPlace → getD x i 0 ≡ getD w i 0
+  pub root : rootPlace ≢ at → getD x rootPlace 0 ≡ getD w rootPlace 0
+  pub links : (j : ℕ) (s : Side) → 0 < j → j ≤ c → ¬ List·Memᴰ j js → linkPlace j s ≢ at → getD x (linkPlace j s) 0 ≡ getD w (linkPlace j s) 0
+
+-- a store at a place where a cell may hang leaves the grants' words and the header but the root
+words-set : {c at : ℕ} (w : List ℕ) (v : ℕ) → Hook c at → (j : ℕ) → SameGrantWords w (set w at v) j
+words-set w v hook j f h = field-set-hook w j v f hook h
+
+header-set : {c at : ℕ} (w : List ℕ) (v : ℕ) → Hook c at → (i : ℕ) → i < headerWords → i ≢ rootPlace → getD (set w at v) i 0 ≡ getD w i 0
+header-set {at = at} w v hook i h n = getD-set-other w at i v 0 (hook-header i hook h n)
+
+-- the cell k with no sons, at the place `at`
+pub unlinked-leaf : {w : List ℕ} {c at : ℕ} (n k : ℕ) (g : Region) → length w ≡ poolLength c → Hook c at
+    → Unlinked w (set w at 0) c n at g k (cellsOf (node k blank blank))
+unfolding cellsOf
+unlinked-leaf {w} {c} {at} n k g long hook = record {
+  tree = blank;
+  cells = perm-refl (k ∷ []);
+  spells = rw (getD-set-same w at 0 0 (omega (arith, hook-within hook))) spells-blank;
+  words = words-set w 0 hook;
+  long = length-set w at 0;
+  header = header-set w 0 hook;
+  root = λ n. getD-set-other w at rootPlace 0 0 n;
+  links = λ j s pos le out n. getD-set-other w at (linkPlace j s) 0 0 n;
+}
+
+-- the words with the terminal cell cut from its father, and then with the links of k in it
+abbrev cutOff : List ℕ → ℕ → List ℕ
+cutOff w leafAt = set w leafAt 0
+
+abbrev leftMoved : List ℕ → ℕ → ℕ → ℕ → List ℕ
+leftMoved w k leaf leafAt = set (cutOff w leafAt) (linkPlace leaf Left) (getD (cutOff w leafAt) (linkPlace k Left) 0)
+
+abbrev bothMoved : List ℕ → ℕ → ℕ → ℕ → List ℕ
+bothMoved w k leaf leafAt = set (leftMoved w k leaf leafAt) (linkPlace leaf Right) (getD (cutOff w leafAt) (linkPlace k Right) 0)
+
+-- reads of the words with a terminal cell in the place of the cell k
+module _ (w : List ℕ) (k : ℕ) {c at leaf leafAt : ℕ} (long : length w ≡ poolLength c) (hook : Hook c at) (leafHook : Hook c leafAt) (pos : 0 < leaf) (le : leaf ≤ c) where
+  replaced-long : length (replaced w k at leaf leafAt) ≡ length w
+  unfolding replaced
+  replaced-long =
+      length-set (bothMoved w k leaf leafAt) at leaf
+      ∙ length-set (leftMoved w k leaf leafAt) (linkPlace leaf Right) _
+      ∙ length-set (cutOff w leafAt) (linkPlace leaf Left) _
+      ∙ length-set w leafAt 0
+
+  replaced-words : (j : ℕ) → SameGrantWords w (replaced w k at leaf leafAt) j
+  unfolding replaced
+  replaced-words j f h =
+      words-set (bothMoved w k leaf leafAt) leaf hook j f h
+      ∙ words-set (leftMoved w k leaf leafAt) _ (hook-link Right pos le) j f h
+      ∙ words-set (cutOff w leafAt) _ (hook-link Left pos le) j f h
+      ∙ words-set w 0 leafHook j f h
+
+  replaced-header : (i : ℕ) → i < headerWords → i ≢ rootPlace → getD (replaced w k at leaf leafAt) i 0 ≡ getD w i 0
+  unfolding replaced
+  replaced-header i h n =
+      header-set (bothMoved w k leaf leafAt) leaf hook i h n
+      ∙ header-set (leftMoved w k leaf leafAt) _ (hook-link Right pos le) i h n
+      ∙ header-set (cutOff w leafAt) _ (hook-link Left pos le) i h n
+      ∙ header-set w 0 leafHook i h n
+
+  replaced-here : getD (replaced w k at leaf leafAt) at 0 ≡ leaf
+  unfolding replaced
+  replaced-here =
+      let e = length-set (leftMoved w k leaf leafAt) (linkPlace leaf Right) (getD (cutOff w leafAt) (linkPlace k Right) 0) in
+      let f = length-set (cutOff w leafAt) (linkPlace leaf Left) (getD (cutOff w leafAt) (linkPlace k Left) 0) in
+      getD-set-same (bothMoved w k leaf leafAt) at leaf 0 (omega (arith, hook-within hook, e, f, length-set w leafAt 0))
+
+  -- the terminal cell has the links of k
+  replaced-leaf : Away at leaf → (s : Side) → getD (replaced w k at leaf leafAt) (linkPlace leaf s) 0 ≡ getD (cutOff w leafAt) (linkPlace k s) 0
+  unfolding replaced
+  replaced-leaf away Left =
+      getD-set-other (bothMoved w k leaf leafAt) at (linkPlace leaf Left) leaf 0 (away Left)
+      ∙ getD-set-other (leftMoved w k leaf leafAt) (linkPlace leaf Right) (linkPlace leaf Left) _ 0 (sides-apart leaf)
+      ∙ getD-set-same (cutOff w leafAt) (linkPlace leaf Left) _ 0 (omega (arith, hook-within {c = c} (hook-link Left pos le), length-set w leafAt 0))
+  replaced-leaf away Right =
+      let f = length-set (cutOff w leafAt) (linkPlace leaf Left) (getD (cutOff w leafAt) (linkPlace k Left) 0) in
+      getD-set-other (bothMoved w k leaf leafAt) at (linkPlace leaf Right) leaf 0 (away Right)
+      ∙ getD-set-same (leftMoved w k leaf leafAt) (linkPlace leaf Right) _ 0 (omega (arith, hook-within {c = c} (hook-link Right pos le), f, length-set w leafAt 0))
+
+  -- no other place is stored
+  replaced-other : (link : ℕ) → link ≢ at → Away link leaf → getD (replaced w k at leaf leafAt) link 0 ≡ getD (cutOff w leafAt) link 0
+  unfolding replaced
+  replaced-other link n away =
+      getD-set-other (bothMoved w k leaf leafAt) at link leaf 0 n
+      ∙ getD-set-other (leftMoved w k leaf leafAt) (linkPlace leaf Right) link _ 0 (λ e. away Right (sym e))
+      ∙ getD-set-other (cutOff w leafAt) (linkPlace leaf Left) link _ 0 (λ e. away Left (sym e))
+
+-- the cell k with the sons l and r, and the terminal cell below its son on the side s
+module _ {w : List ℕ} {c n at m leafAt : ℕ} {g : Region} {leaf : ℕ} (s : Side) (k : ℕ) (l r : Tree)
+    (q : Part n (linkPlace k s) (son s l r) (suc m) leafAt (node leaf blank blank))
+    (long : length w ≡ poolLength c) (hook : Hook c at) (here : getD w at 0 ≡ k) (shape : Shape g) (sp : Spells w c (suc n) g k (node k l r))
+    (distinct : Distinct (cellsOf (node k l r))) (away : (j : ℕ) → List·Memᴰ j (cellsOf (node k l r)) → Away at j) where
+  abbrev beside : List ℕ
+  beside = cellsOf (son (other s) l r)
+
+  abbrev whole : Part (suc n) at (node k l r) (suc m) leafAt (node leaf blank blank)
+  whole = part-son s q
+
+  -- the terminal cell, and those that stay
+  part-all : Perm (leaf ∷ outside q ++ (k ∷ beside)) (cellsOf (node k l r))
+  unfolding cellsOf outside
+  part-all = part-outside whole
+
+  -- those below the son, once the terminal cell is cut off
+  part-rest : Perm (outside q) (cellsOf (exchanged q blank))
+  unfolding cellsOf
+  part-rest = exchanged-cells q blank
+
+  stays : (j : ℕ) → List·Memᴰ j (outside q ++ (k ∷ beside)) → List·Memᴰ j (cellsOf (node k l r))
+  stays j i = perm-mem part-all (List·Memᴰ·tail i)
+
+  leaf-in : List·Memᴰ leaf (cellsOf (node k l r))
+  leaf-in = perm-mem part-all (List·Memᴰ·head refl)
+
+  distinct-all : Distinct (leaf ∷ outside q ++ (k ∷ beside))
+  distinct-all = perm-distinct (perm-sym part-all) distinct
+
+  not-leaf : (j : ℕ) → List·Memᴰ j (outside q ++ (k ∷ beside)) → ¬ (j ≡ leaf)
+  not-leaf j i e = distinct-apart (leaf ∷ []) distinct-all leaf (List·Memᴰ·head refl) (Memᴰ·cast (sym e) i)
+
+  upto-stays : Upto c (outside q ++ (k ∷ beside))
+  upto-stays j i = cells-upto sp j (stays j i)
+
+  leafHook : Hook c leafAt
+  unfolding outside
+  leafHook = part-hook whole hook upto-stays
+
+  -- the part without the terminal cell, once that is cut off
+  kept-cut : Kept w (cutOff w leafAt) c at leafAt (outside q ++ (k ∷ beside))
+  kept-cut = record {
+    distinct = distinct-right (leaf ∷ []) distinct-all;
+    upto = upto-stays;
+    away = λ j i. away j (stays j i);
+    same = λ j i.
+        record {
+          links = λ z apart. getD-set-other w leafAt (linkPlace j z) 0 0 apart;
+          grant = grantAt-same w (cutOff w leafAt) j (words-set w 0 leafHook j);
+        };
+    top = λ apart. getD-set-other w leafAt at 0 0 apart;
+  }
+
+  spells-cut : Spells (cutOff w leafAt) c (suc n) g (getD (cutOff w leafAt) at 0) (withSon s k l r (exchanged q blank))
+  unfolding exchanged outside
+  spells-cut =
+      exchanged-spells whole blank here sp kept-cut
+      (rw (getD-set-same w leafAt 0 0 (omega (arith, hook-within leafHook))) spells-blank)
+
+  abbrev moved : List ℕ
+  moved = replaced w k at leaf leafAt
+
+  leaf-bounds : (0 < leaf) × (leaf ≤ c)
+  leaf-bounds = cells-upto sp leaf leaf-in
+
+  -- each cell that stays has the links that it had then
+  same-moved : (j : ℕ) → List·Memᴰ j (outside q ++ (k ∷ beside)) → SameNode (cutOff w leafAt) moved j
+  same-moved j i = record {
+    links = λ z.
+        replaced-other w k long hook leafHook (leaf-bounds .0) (leaf-bounds .1) (linkPlace j z) (away j (stays j i) z)
+        (other-away j leaf z (upto-stays j i .0) (leaf-bounds .0) (not-leaf j i));
+    grant =
+        grantAt-same w moved j (replaced-words w k long hook leafHook (leaf-bounds .0) (leaf-bounds .1) j)
+        ∙ sym (grantAt-same w (cutOff w leafAt) j (words-set w 0 leafHook j));
+  }
+
+  spells-moved : Spells moved c (suc n) g leaf (withSon s leaf l r (exchanged q blank))
+  spells-moved =
+      let parts = spells-parts s k l r (exchanged q blank) spells-cut in
+      let links = replaced-leaf w k long hook leafHook (leaf-bounds .0) (leaf-bounds .1) (away leaf leaf-in) in
+      spells-withSon s l r (exchanged q blank) (leaf-bounds .0) (leaf-bounds .1)
+      (inside-same w moved leaf g (grantAt-same w moved leaf (replaced-words w k long hook leafHook (leaf-bounds .0) (leaf-bounds .1) leaf)) (cells-inside shape sp leaf leaf-in))
+      (rw (links s) (spells-frame (λ j i. same-moved j (Memᴰ·append-left (k ∷ beside) (perm-mem (perm-sym part-rest) i))) (parts .0)))
+      (rw (links (other s)) (spells-frame (λ j i. same-moved j (Memᴰ·append-right (outside q) (List·Memᴰ·tail i))) (parts .1)))
+
+  -- the links of the cells outside of the part
+  links-moved : (j : ℕ) (z : Side) → 0 < j → j ≤ c → ¬ List·Memᴰ j (cellsOf (node k l r)) → linkPlace j z ≢ at → getD moved (linkPlace j z) 0 ≡ getD w (linkPlace j z) 0
+  links-moved j z pos le out apart =
+      replaced-other w k long hook leafHook (leaf-bounds .0) (leaf-bounds .1) (linkPlace j z) apart
+      (other-away j leaf z pos (leaf-bounds .0) (λ e. out (Memᴰ·cast e leaf-in)))
+      ∙ getD-set-other w leafAt (linkPlace j z) 0 0 (link-away j pos upto-stays (part-son-link s k l r q) (λ i. out (stays j i)) z)
+
+  root-moved : rootPlace ≢ at → getD moved rootPlace 0 ≡ getD w rootPlace 0
+  root-moved apart =
+      let father = part-son-link s k l r q in
+      replaced-other w k long hook leafHook (leaf-bounds .0) (leaf-bounds .1) rootPlace apart (root-away leaf)
+      ∙ getD-set-other w leafAt rootPlace 0 0 (λ e. root-away (father .cell) (father .side) (sym (e ∙ father .is)))
+
+  -- k and the cells of the tree that then hangs there
+  cells-moved : Perm (k ∷ cellsOf (withSon s leaf l r (exchanged q blank))) (cellsOf (node k l r))
+  cells-moved =
+      let ks = cellsOf (exchanged q blank) in
+      perm-trans (perm-cons k (perm-sym (withSon-cells s leaf l r (exchanged q blank))))
+      (perm-trans (perm-cons k (perm-sym (put-perm (put-seam ks beside))))
+      (perm-trans (perm-exchange k leaf (ks ++ beside))
+      (perm-trans (perm-cons leaf (put-perm (put-seam ks beside)))
+      (perm-trans (perm-cons leaf (perm-append (k ∷ beside) (perm-sym part-rest)))
+      part-all))))
+
+  pub unlinked-inner : Unlinked w moved c (suc n) at g k (cellsOf (node k l r))
+  unlinked-inner = record {
+    tree = withSon s leaf l r (exchanged q blank);
+    cells = cells-moved;
+    spells = rw (replaced-here w k long hook leafHook (leaf-bounds .0) (leaf-bounds .1)) spells-moved;
+    words = replaced-words w k long hook leafHook (leaf-bounds .0) (leaf-bounds .1);
+    long = replaced-long w k long hook leafHook (leaf-bounds .0) (leaf-bounds .1);
+    header = replaced-header w k long hook leafHook (leaf-bounds .0) (leaf-bounds .1);
+    root = root-moved;
+    links = links-moved;
+  }
+
+  -- the terminal cell is another
+  pub inner-other : ¬ (leaf ≡ k)
+  inner-other e = not-leaf k (Memᴰ·append-right (outside q) (List·Memᴰ·head refl)) (sym e)
+
+pub unlinked-part : {w : List ℕ} {c n at m leafAt : ℕ} {g : Region} {k leaf : ℕ} {l r : Tree} → Part (suc n) at (node k l r) (suc m) leafAt (node leaf blank blank)
+    → length w ≡ poolLength c → Hook c at → getD w at 0 ≡ k → Shape g → Spells w c (suc n) g k (node k l r)
+    → Distinct (cellsOf (node k l r)) → ((j : ℕ) → List·Memᴰ j (cellsOf (node k l r)) → Away at j)
+    → Unlinked w (unlinked w k at leaf leafAt) c (suc n) at g k (cellsOf (node k l r))
+unfolding unlinked
+unlinked-part {n = n} {g = g} {k = k} part-here long hook here shape sp distinct away = rw (eq-eqb k k refl) (unlinked-leaf (suc n) k g long hook)
+unlinked-part {k = k} {leaf = leaf} {l = l} {r = r} (part-son s q) long hook here shape sp distinct away =
+    rw (ne-eqb leaf k (inner-other s k l r q long hook here shape sp distinct away)) (unlinked-inner s k l r q long hook here shape sp distinct away)

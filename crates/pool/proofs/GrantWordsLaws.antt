@@ -1,0 +1,88 @@
+-- The words of a cell from the number on, as a part of the pool.
+--   fieldWords w k            the cell's fields from the number on
+--   slice-fieldWords          they are that part of the pool
+--   fieldWords-same           where the words are the same
+--   fieldWords-withCell       of a cell that was stored
+--   grantAt-fieldWords        the grant that they are the words of, if it fits
+-- Assumes nothing.
+use Prim.Native.Nat.{ℕ, suc, _<_, _≤_}
+use mathlib.Core.Path.{_≡_, refl, ap, _∙_}
+use mathlib.Core.List.{List, [], _∷_}
+use native.Mathlib.Omega.{arith}
+use lib.ListN.{length, getD}
+use lib.Seq.{slice, slice-empty, slice-cons}
+use Rattle.model.specs.declared.Grant.{Grant}
+use Rattle.model.specs.Values.{GrantFits}
+use Rattle.pool.specs.declared.Field.{Field}
+use Rattle.pool.specs.declared.Field.the-variants.{Left, Number, RankKind, StaffFrom, StaffTo, DoorFrom, DoorTo, QuarterFrom, QuarterTo}
+use Rattle.pool.specs.Layout.{offset, place, fieldOf}
+use Rattle.pool.specs.Capacity.{poolLength}
+use Rattle.pool.specs.Cell.{grantAt, grantWords, cellOf, withCell}
+use Rattle.pool.proofs.LayoutLaws.{offset-lt}
+use Rattle.pool.proofs.CellLaws.{SameGrantWords, field-withCell-same, rank-word, kind-word}
+
+abbrev pub fieldWords : List ℕ → ℕ → List ℕ
+fieldWords w k =
+    fieldOf w k Number ∷ fieldOf w k RankKind ∷ fieldOf w k StaffFrom ∷ fieldOf w k StaffTo
+    ∷ fieldOf w k DoorFrom ∷ fieldOf w k DoorTo ∷ fieldOf w k QuarterFrom ∷ fieldOf w k QuarterTo ∷ []
+
+place-next : (k : ℕ) (f : Field) → 0 < k → place k f < place (suc k) Left
+unfolding place
+place-next k f pos = omega (arith, offset-lt f)
+
+place-end : (c k : ℕ) → 0 < k → k ≤ c → (n : ℕ) → n ≡ poolLength c → place (suc k) Left ≤ n
+unfolding place
+place-end c k pos le n e = omega arith
+
+module _ (w : List ℕ) (c k : ℕ) (pos : 0 < k) (le : k ≤ c) (long : length w ≡ poolLength c) where
+  -- one field, and the words after it
+  slice-field : (f : Field) (i : ℕ) → suc (place k f) ≡ i → slice (place k f) (place (suc k) Left) w ≡ fieldOf w k f ∷ slice i (place (suc k) Left) w
+  unfolding fieldOf
+  slice-field f i e =
+      slice-cons (place k f) (place (suc k) Left) w 0 (before f) end
+      ∙ ap (λ (j : ℕ). fieldOf w k f ∷ slice j (place (suc k) Left) w) e
+    where
+      before : (f : Field) → place k f < place (suc k) Left
+      before f = place-next k f pos
+
+      end : place (suc k) Left ≤ length w
+      end = place-end c k pos le (length w) long
+
+  next : (f g : Field) → offset g ≡ suc (offset f) → suc (place k f) ≡ place k g
+  unfolding place
+  next f g e = omega arith
+
+  last : suc (place k QuarterTo) ≡ place (suc k) Left
+  unfolding place
+  last = omega arith
+
+  pub slice-fieldWords : slice (place k Number) (place (suc k) Left) w ≡ fieldWords w k
+  slice-fieldWords =
+      rw (
+        slice-field Number (place k RankKind) (next Number RankKind refl),
+        slice-field RankKind (place k StaffFrom) (next RankKind StaffFrom refl),
+        slice-field StaffFrom (place k StaffTo) (next StaffFrom StaffTo refl),
+        slice-field StaffTo (place k DoorFrom) (next StaffTo DoorFrom refl),
+        slice-field DoorFrom (place k DoorTo) (next DoorFrom DoorTo refl),
+        slice-field DoorTo (place k QuarterFrom) (next DoorTo QuarterFrom refl),
+        slice-field QuarterFrom (place k QuarterTo) (next QuarterFrom QuarterTo refl),
+        slice-field QuarterTo (place (suc k) Left) last,
+        slice-empty (place (suc k) Left) w,
+      ) refl
+
+pub fieldWords-same : (w v : List ℕ) (k : ℕ) → SameGrantWords w v k → fieldWords v k ≡ fieldWords w k
+fieldWords-same w v k same =
+    cc (same Number (omega arith), same RankKind (omega arith), same StaffFrom (omega arith), same StaffTo (omega arith), same DoorFrom (omega arith), same DoorTo (omega arith), same QuarterFrom (omega arith), same QuarterTo (omega arith))
+
+pub fieldWords-withCell : (w : List ℕ) (c k l r : ℕ) (g : Grant) → 0 < k → k ≤ c → length w ≡ poolLength c
+    → fieldWords (withCell w k (cellOf l r g)) k ≡ grantWords g
+fieldWords-withCell w c k l r g pos le long =
+    let v = withCell w k (cellOf l r g) in
+    let at : (f : Field) → fieldOf v k f ≡ getD (cellOf l r g) (offset f) 0 = λ f. field-withCell-same w k (cellOf l r g) refl c f pos le long in
+    rw (at Number, at RankKind, at StaffFrom, at StaffTo, at DoorFrom, at DoorTo, at QuarterFrom, at QuarterTo) refl
+
+pub grantAt-fieldWords : (w : List ℕ) (k : ℕ) (g : Grant) → fieldWords w k ≡ grantWords g → GrantFits g → grantAt w k ≡ g
+unfolding grantAt
+grantAt-fieldWords w k g e fits =
+    let word : (i : ℕ) → getD (fieldWords w k) i 0 ≡ getD (grantWords g) i 0 = λ i. ap (λ (ws : List ℕ). getD ws i 0) e in
+    rw (word 0, word 1, word 2, word 3, word 4, word 5, word 6, word 7, rank-word (g .rank) (g .kind) (fits .rank), kind-word (g .rank) (g .kind)) refl
