@@ -7,17 +7,14 @@ use Prim.Native.Nat.{ℕ, _+_, _≤_}
 use mathlib.Core.Logic.{_⊎_, inl, inr}
 use mathlib.Core.Path.{_≡_, refl, sym, ap, subst, _∙_}
 use mathlib.Core.Bool.{Bool, true, false, not, _&&_, _||_}
-use mathlib.Core.List.{List, [], _∷_, map, List·Memᴰ, Memᴰ·map, Memᴰ·cast}
+use mathlib.Core.List.{List, [], _∷_, List·Memᴰ, Memᴰ·map, Memᴰ·cast}
 use mathlib.Core.Option.{none}
 use native.Mathlib.Omega.{arith}
 use lib.Dec.{eqb}
 use lib.ListN.{length}
 use borrow.Author.Tests.{eqb-false}
 use Rattle.lists.specs.Sort.{insertBy}
-use Rattle.lists.proofs.MapLaws.{map-same}
-use Rattle.lists.proofs.DistinctLaws.{Distinct}
-use Rattle.lists.proofs.PermLaws.{Put, put-mem, put-map, distinct-put}
-use Rattle.lists.proofs.SortLaws.{sortBy-put}
+use Rattle.lists.proofs.PermLaws.{put-mem}
 use Rattle.model.specs.declared.Grant.{Grant}
 use Rattle.model.specs.declared.Fault.the-variants.{Reversed, ZeroNumber, UnknownKind, AlreadyLive, Full}
 use Rattle.model.specs.Refusal.{Cause, _if_, firstFault}
@@ -31,40 +28,34 @@ use Rattle.geometry.specs.Region.{rootRegion}
 use Rattle.geometry.specs.Point.{inside, pointOf}
 use Rattle.geometry.proofs.PointLaws.{numbers-differ}
 use Rattle.geometry.proofs.SearchRangeLaws.{all-hits}
-use Rattle.pool.specs.Cell.{grantAt, cellOf}
-use Rattle.pool.proofs.CellLaws.{field-withCell-same}
+use Rattle.pool.specs.Cell.{grantAt}
 use Rattle.adt.specs.Insert.{freeBroken}
 use Rattle.adt.proofs.Spells.{cellsOf}
 use Rattle.adt.proofs.ChainLaws.{chain-none, freeBroken-chain}
 use Rattle.adt.proofs.WayLaws.{Leads, descend-leads}
 use Rattle.adt.proofs.Linked.{Linked}
-use Rattle.adt.proofs.InsertLaws.{chain-first, Inserted, insert-keeps-linked}
+use Rattle.adt.proofs.LiveLaws.{numbersOf, inserted-numbers, live-inserted}
+use Rattle.adt.proofs.CarriesLaws.{carries-inserted, carries-inserted-other}
+use Rattle.adt.proofs.InsertLaws.{Inserted, insert-keeps-linked}
 use Rattle.index.specs.Walks.{numberSearch, hitsOf, requestWay}
 use Rattle.index.specs.Causes.{wayLost, grantBroken}
 use Rattle.index.specs.Order.{grantOrder}
 use Rattle.index.specs.Calls.{grantCall, grantedWords}
-use Rattle.index.proofs.Represents.{numberOf, grantsOf, Carried, Represents, represents-pool, represents-capacity, represents-count, cells-distinct}
+use Rattle.index.proofs.Represents.{numberOf, Carried, Represents, represents-pool, represents-capacity, represents-count, cells-distinct}
 use Rattle.index.proofs.NumberLaws.{number-found, numberLive-isLive, not-live}
 
 -- the words v with the cell k put in, which carries g
 module _ {w v : List ℕ} {b : Book} {k : ℕ} {ks : List ℕ} {g : Grant} (h : Represents w b) (linked : Linked w (b .capacity) (h .tree) (k ∷ ks))
     (done : Inserted w v (b .capacity) (h .tree) k ks g) (fits : GrantFits g) (numbered : 1 ≤ g .number) (upright : reversedBox (g .bounds) ≡ false)
-    (new : ¬ List·Memᴰ (g .number) (map numberOf (grantsOf w (h .tree)))) where
+    (new : ¬ List·Memᴰ (g .number) (numbersOf w (h .tree))) where
   new-carried : Carried v k g
-  new-carried =
-      let first = chain-first (linked .free) in
-      record {
-        fits = fits;
-        numbered = numbered;
-        upright = upright;
-        words = λ f i. done .grant-words f i ∙ field-withCell-same w k (cellOf 0 0 g) refl (b .capacity) f (first .pos) (first .le) (linked .long);
-      }
+  new-carried = record { fits = fits; numbered = numbered; upright = upright; words = carries-inserted linked done }
 
   old-carried : (j : ℕ) → List·Memᴰ j (cellsOf (h .tree)) → Carried v j (grantAt v j)
   old-carried j m =
       let old = h .carried j m in
       subst (Carried v j) (sym (done .others j m))
-      (record { fits = old .fits; numbered = old .numbered; upright = old .upright; words = λ f i. done .other-words j m f i ∙ old .words f i })
+      (record { fits = old .fits; numbered = old .numbered; upright = old .upright; words = carries-inserted-other linked done j (grantAt w j) m (old .words) })
 
   all-carried : (j : ℕ) → List·Memᴰ j (cellsOf (done .tree)) → Carried v j (grantAt v j)
   all-carried j m = go (put-mem (done .cells) m)
@@ -72,13 +63,6 @@ module _ {w v : List ℕ} {b : Book} {k : ℕ} {ks : List ℕ} {g : Grant} (h : 
       go : (j ≡ k) ⊎ List·Memᴰ j (cellsOf (h .tree)) → Carried v j (grantAt v j)
       go (inl e) = subst (λ (i : ℕ). Carried v i (grantAt v i)) (sym e) (subst (Carried v k) (sym (done .grant)) new-carried)
       go (inr i) = old-carried j i
-
-  put-grant : Put g (grantsOf w (h .tree)) (grantsOf v (done .tree))
-  put-grant =
-      rw (done .grant, map-same (grantAt v) (grantAt w) (cellsOf (h .tree)) (done .others)) at (put-map (grantAt v) (done .cells))
-
-  numbers-distinct : Distinct (map numberOf (grantsOf v (done .tree)))
-  numbers-distinct = distinct-put (put-map numberOf put-grant) new (h .distinct)
 
   pub insert-represents : Represents v (withLive b (insertBy numberOf g (b .live)))
   insert-represents = record {
@@ -88,8 +72,8 @@ module _ {w v : List ℕ} {b : Book} {k : ℕ} {ks : List ℕ} {g : Grant} (h : 
     some = h .some;
     few = h .few;
     carried = all-carried;
-    distinct = numbers-distinct;
-    live = sortBy-put numberOf put-grant numbers-distinct ∙ ap (insertBy numberOf g) (h .live);
+    distinct = inserted-numbers done new (h .distinct);
+    live = live-inserted done new (h .distinct) ∙ ap (insertBy numberOf g) (h .live);
   }
 
 module _ {w : List ℕ} {b : Book} (h : Represents w b) (r : Request) (fits : RequestFits r) where

@@ -6,16 +6,17 @@
 use Prim.Native.Nat.{ℕ}
 use mathlib.Core.Path.{_≡_, sym, ap, _∙_}
 use mathlib.Core.Bool.{false, not, true≢false}
-use mathlib.Core.List.{List, map, List·Memᴰ, Memᴰ·of-map}
+use mathlib.Core.List.{List, List·Memᴰ, Memᴰ·of-map}
 use lib.Dec.{eqb}
 use borrow.Author.Tests.{eq-eqb}
 use Rattle.lists.proofs.KeyLaws.{any-keep, mem-any}
 use Rattle.model.specs.Book.{Book, isLive}
 use Rattle.geometry.specs.SearchRange.{rangeOfNumber}
 use Rattle.geometry.proofs.SearchRangeLaws.{number-hits}
+use Rattle.adt.proofs.LiveLaws.{grantsOf, numbersOf}
 use Rattle.index.specs.Walks.{numberSearch, hitsOf}
 use Rattle.index.specs.Causes.{numberLive}
-use Rattle.index.proofs.Represents.{numberOf, grantsOf, Represents, live-represents, Hits, represents-hits}
+use Rattle.index.proofs.Represents.{numberOf, Represents, live-represents, Hits, represents-hits}
 
 module _ {w : List ℕ} {b : Book} (h : Represents w b) (n : ℕ) where
   pub number-found : Hits w (b .live) (λ g. eqb (g .number) n) (numberSearch w n)
@@ -24,7 +25,7 @@ module _ {w : List ℕ} {b : Book} (h : Represents w b) (n : ℕ) where
   pub numberLive-isLive : numberLive (hitsOf (numberSearch w n)) ≡ isLive b n
   numberLive-isLive = ap (λ (k : ℕ). not (eqb k 0)) (number-found .count) ∙ sym (any-keep (λ g. eqb (g .number) n) (b .live))
 
-  pub not-live : isLive b n ≡ false → ¬ List·Memᴰ n (map numberOf (grantsOf w (h .tree)))
+  pub not-live : isLive b n ≡ false → ¬ List·Memᴰ n (numbersOf w (h .tree))
   not-live e m =
       let o = Memᴰ·of-map numberOf (grantsOf w (h .tree)) m in
       true≢false (sym (mem-any (λ g. eqb (g .number) n) (live-represents h (o .0) (o .1)) (eq-eqb (o .0 .number) n (o .2))) ∙ e)

@@ -1,7 +1,5 @@
 -- When the words of a pool stand for a plain book.
---   grantsOf w t           the grants in the cells of a tree, in the tree's order
---   CarriesFields w k g    the words of the cell k, from the number on, are those of g
---   Carried w k g          they are, and g has values that fit, a number above 0 and a box that is not reversed
+--   Carried w k g          the cell k carries g, which has values that fit, a number above 0 and a box that is not reversed
 --   Represents w b         the links hold together (adt/proofs/Linked), each cell of the tree carries such a grant, no two of one number,
 --                          and these grants, sorted, are the live ones
 --   represents-pool, represents-capacity     no fault 1; C is the book's
@@ -17,7 +15,7 @@ use mathlib.Core.Path.{_≡_, refl, sym, ap, subst, _∙_}
 use mathlib.Core.Bool.{Bool, false}
 use mathlib.Core.List.{List, map, List·Memᴰ, Memᴰ·of-map}
 use native.Mathlib.Omega.{arith}
-use lib.ListN.{length, getD, length-map}
+use lib.ListN.{length, length-map}
 use Rattle.lists.specs.Tests.{keep}
 use Rattle.lists.specs.Sort.{sortBy}
 use Rattle.lists.proofs.TestLaws.{keep-map, keep-same}
@@ -32,15 +30,14 @@ use Rattle.model.specs.Values.{GrantFits}
 use Rattle.model.specs.Book.{Book}
 use Rattle.geometry.specs.Region.{Region}
 use Rattle.geometry.specs.Point.{inside, pointOf}
-use Rattle.pool.specs.declared.Field.{Field}
-use Rattle.pool.specs.declared.Field.the-variants as field
-use Rattle.pool.specs.Layout.{offset, fieldOf}
 use Rattle.pool.specs.Capacity.{capacityOf, wrongPool}
-use Rattle.pool.specs.Cell.{grantAt, cellOf}
+use Rattle.pool.specs.Cell.{grantAt}
 use Rattle.pool.proofs.CapacityLaws.{wrongPool-iff}
 use Rattle.adt.specs.Search.{Search, search}
+use Rattle.adt.specs.Reach.{Carries}
 use Rattle.adt.proofs.Spells.{Tree, cellsOf}
 use Rattle.adt.proofs.TreeLaws.{cells-size}
+use Rattle.adt.proofs.LiveLaws.{grantsOf, numbersOf}
 use Rattle.adt.proofs.SearchLaws.{hitsIn, Finds, search-finds}
 use Rattle.adt.proofs.Linked.{Linked, linked-distinct, linked-count, linked-capacity}
 use Rattle.index.specs.Walks.{isBroken, hitsOf, grantsHit}
@@ -48,17 +45,11 @@ use Rattle.index.specs.Walks.{isBroken, hitsOf, grantsHit}
 abbrev pub numberOf : Grant → ℕ
 numberOf g = g .number
 
-abbrev pub grantsOf : List ℕ → Tree → List Grant
-grantsOf w t = map (grantAt w) (cellsOf t)
-
-abbrev pub CarriesFields : List ℕ → ℕ → Grant → Type 0
-CarriesFields w k g = (f : Field) → offset field.Number ≤ offset f → fieldOf w k f ≡ getD (cellOf 0 0 g) (offset f) 0
-
 pub record Carried (w : List ℕ) (k : ℕ) (g : Grant) : Type 0 where
   pub fits : GrantFits g
   pub numbered : 1 ≤ g .number
   pub upright : reversedBox (g .bounds) ≡ false
-  pub words : CarriesFields w k g
+  pub words : Carries w k g
 
 pub record Represents (w : List ℕ) (b : Book) : Type 0 where
   pub tree : Tree
@@ -67,7 +58,7 @@ pub record Represents (w : List ℕ) (b : Book) : Type 0 where
   pub some : 1 ≤ b .capacity
   pub few : b .capacity ≤ maxGrants
   pub carried : (k : ℕ) → List·Memᴰ k (cellsOf tree) → Carried w k (grantAt w k)
-  pub distinct : Distinct (map numberOf (grantsOf w tree))
+  pub distinct : Distinct (numbersOf w tree)
   pub live : sortBy numberOf (grantsOf w tree) ≡ b .live
 
 -- a search that is whole, and what it hits

@@ -8,4 +8,3 @@ pub mod PermLaws
 pub mod CountLaws
 pub mod SortLaws
 pub mod KeyLaws
-pub mod MapLaws
