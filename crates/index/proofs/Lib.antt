@@ -4,3 +4,5 @@ pub mod QueryLaws
 pub mod StartLaws
 pub mod NumberLaws
 pub mod GrantLaws
+pub mod RevokeLaws
+pub mod CallLaws
