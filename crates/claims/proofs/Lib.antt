@@ -1,4 +1,5 @@
--- The definitions tried on numbers.
+-- The definitions tried on numbers, and the proofs of the claims.
 pub mod Cases
 pub mod MarkedCases
 pub mod TriedCases
+pub mod Answers
