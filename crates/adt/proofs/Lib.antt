@@ -20,3 +20,4 @@ pub mod UnlinkLaws
 pub mod RemoveLaws
 pub mod LiveLaws
 pub mod CarriesLaws
+pub mod ReachLaws

@@ -6,3 +6,4 @@ pub mod NumberLaws
 pub mod GrantLaws
 pub mod RevokeLaws
 pub mod CallLaws
+pub mod HoldsLaws
