@@ -3,6 +3,7 @@
 --   started              start is accepted
 --   calls-answer         the answers are the book's
 --   calls-represent      the words after stand for the book after
+--   calls-hold           they hold its live grants on one tree
 -- Assumes nothing.
 use Prim.Native.Nat.{ℕ}
 use mathlib.Core.Path.{_≡_}
@@ -12,13 +13,16 @@ use Rattle.model.specs.Call.{Call}
 use Rattle.model.specs.Values.{CallFits, CallsFit}
 use Rattle.model.specs.Book.{emptyBook, bookStep}
 use Rattle.model.specs.Histories.{told, after}
+use Rattle.model.proofs.BookLaws.{after-capacity}
 use Rattle.model.proofs.Simulation.{calls-refine}
 use Rattle.pool.proofs.CapacityLaws.{Sized}
+use Rattle.adt.specs.Reach.{Holds}
 use Rattle.index.specs.Calls.{startCall, wordsStep}
 use Rattle.index.proofs.Represents.{Represents}
 use Rattle.index.proofs.StartLaws.{start-refines}
+use Rattle.index.proofs.HoldsLaws.{represents-holds}
 use Rattle.index.proofs.CallLaws.{call-refines}
-use Rattle.claims.specs.Claims.{Memory, wordsAfter}
+use Rattle.claims.specs.Claims.{Memory, wordsAfter, liveAfter}
 
 pub memory-sized : {c : ℕ} {memory : List ℕ} → Memory c memory → Sized memory c
 memory-sized m = record { some = m .some; few = m .few; long = m .long }
@@ -36,3 +40,6 @@ module _ {c : ℕ} {memory : List ℕ} (m : Memory c memory) where
 
     pub calls-represent : Represents (wordsAfter memory calls) (after bookStep (emptyBook c) calls)
     calls-represent = both .1
+
+    pub calls-hold : Holds (wordsAfter memory calls) c (liveAfter c calls)
+    calls-hold = rw (after-capacity (emptyBook c) calls) at (represents-holds calls-represent)

@@ -8,3 +8,4 @@ pub mod PermLaws
 pub mod CountLaws
 pub mod SortLaws
 pub mod KeyLaws
+pub mod EveryLaws

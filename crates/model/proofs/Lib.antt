@@ -3,3 +3,5 @@ pub mod OverlapLaws
 pub mod DecideLaws
 pub mod Simulation
 pub mod RefusalLaws
+pub mod SoundLaws
+pub mod BookLaws
