@@ -1,0 +1,3 @@
+-- Laws of the grants file, for the crates above.
+pub mod BytesLaws
+pub mod RecordLaws
