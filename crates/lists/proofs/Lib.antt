@@ -4,3 +4,4 @@ pub mod TestLaws
 pub mod ElementLaws
 pub mod RangeLaws
 pub mod ListLaws
+pub mod OrLaws

@@ -9,15 +9,21 @@
 --   parts-joined                       the parts of one width, joined, are the list
 --   part-flatMap                       a part of a joined list, where the parts before it are of one width, and it is too unless it is the last
 --   parts-flatMap                      all parts of a joined list, where every part is of one width
+--   sameNumbers-true                   lists that the test finds equal are equal
+--   every-zero, zero-every             a list passes as zeros exactly if it is zeros
 -- Assumes nothing.
 use Prim.Native.Nat.{ℕ, zero, suc, _+_, _*_, _≤_, _<_}
 use mathlib.Core.Path.{_≡_, refl, sym, ap, ap₂, _∙_}
 use mathlib.Core.Logic.{_⊎_, inl, inr}
+use mathlib.Core.Bool.{true, and-eq-true-iff, false≢true}
 use mathlib.Core.List.{List, [], _∷_, _++_, map, flatMap, append-nil, append-assoc, map-map, map-append, List·Memᴰ, List·Memᴰ·head, List·Memᴰ·tail, List·Memᴰ·not-nil, List·Memᴰ·append-cases}
 use native.Mathlib.Nat.{mul-suc, mul-zero, add-zero, zero-add, add-suc, suc-add, add-comm}
 use native.Mathlib.Omega.{arith}
-use lib.ListN.{length, getD, take, drop, length-append}
+use borrow.Author.Tests.{eqb-true}
+use lib.Dec.{eqb}
+use lib.ListN.{replicate, length, getD, take, drop, length-append}
 use lib.Seq.{drop-cons, take-all, take-add, drop-drop, drop-at, take-at}
+use Rattle.lists.specs.Tests.{every, sameNumbers}
 use Rattle.lists.specs.Ranges.{countFrom}
 use Rattle.lists.proofs.RangeLaws.{length-countFrom}
 
@@ -120,3 +126,26 @@ parts-flatMap {A} {B} f w (x ∷ xs) zs h =
   where
     further : (i : ℕ) → take w (drop (w * suc i) ((f x ++ flatMap f xs) ++ zs)) ≡ take w (drop (w * i) (flatMap f xs ++ zs))
     further i = rw (mul-suc, add-comm (w * i) w, ← drop-drop, append-assoc, drop-at (f x) (flatMap f xs ++ zs) w (h x))
+
+-- two lists that the test finds equal are equal
+pub sameNumbers-true : (xs ys : List ℕ) → sameNumbers xs ys ≡ true → xs ≡ ys
+unfolding sameNumbers
+sameNumbers-true [] [] e = refl
+sameNumbers-true [] (y ∷ ys) e = absurd (false≢true e)
+sameNumbers-true (x ∷ xs) [] e = absurd (false≢true e)
+sameNumbers-true (x ∷ xs) (y ∷ ys) e =
+    let both = and-eq-true-iff (eqb x y) (sameNumbers xs ys) .0 e in
+    ap₂ _∷_ (eqb-true x y (both .0)) (sameNumbers-true xs ys (both .1))
+
+-- a list of zeros
+pub every-zero : (xs : List ℕ) → every (λ x. eqb x 0) xs ≡ true → xs ≡ replicate (length xs) 0
+unfolding every
+every-zero [] e = refl
+every-zero (x ∷ xs) e =
+    let both = and-eq-true-iff (eqb x 0) (every (λ y. eqb y 0) xs) .0 e in
+    ap₂ _∷_ (eqb-true x 0 (both .0)) (every-zero xs (both .1))
+
+pub zero-every : (n : ℕ) → every (λ x. eqb x 0) (replicate n 0) ≡ true
+unfolding every
+zero-every zero = refl
+zero-every (suc n) = zero-every n
