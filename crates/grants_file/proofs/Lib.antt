@@ -2,3 +2,4 @@
 pub mod BytesLaws
 pub mod RecordLaws
 pub mod BlockLaws
+pub mod FileLaws
