@@ -46,7 +46,7 @@ pub length-chunk : (i : ℕ) (gs : List Grant) → length (chunk i gs) ≡ count
 length-chunk i gs = rw (length-take, length-drop)
 
 -- block i of a file
-pub blockOf : Interval → List Grant → ℕ → List ℕ
+unfoldable pub blockOf : Interval → List Grant → ℕ → List ℕ
 blockOf doors gs zero = headerBlock (length gs) doors
 blockOf doors gs (suc i) = recordBlock (suc i) (chunk (suc i) gs)
 
@@ -102,7 +102,7 @@ module _ (doors : Interval) (gs : List Grant) where
       read i = map decodeRecord (recordsOf (blockAt (fileOf doors gs) i) (countIn (totalIn (fileOf doors gs)) i))
 
 -- the grants of block i of any bytes
-pub grantsOf : List ℕ → ℕ → List Grant
+unfoldable pub grantsOf : List ℕ → ℕ → List Grant
 grantsOf f i = map decodeRecord (recordsOf (blockAt f i) (countIn (totalIn f) i))
 
 length-grantsOf : (f : List ℕ) (i : ℕ) → length (grantsOf f i) ≡ countIn (totalIn f) i

@@ -1,5 +1,8 @@
 -- Laws of the grants file, for the crates above.
 pub mod BytesLaws
 pub mod RecordLaws
+pub mod WrongRecordLaws
 pub mod BlockLaws
 pub mod FileLaws
+pub mod CauseLaws
+pub mod VerdictLaws

@@ -1,6 +1,7 @@
 -- Laws of lists joined from parts, of parts taken out again, and of runs.
 --   map-same, flatMap-same             functions that agree on the elements make the same list
 --   map-inverse                        a function undone on each element
+--   map-take, map-drop                 a front and a rest of a made list
 --   flatMap-append, flatMap-map, map-flatMap, length-flatMap
 --   mem-flatMap                        an element of the joined list is in the part of one element
 --   countFrom-append, countFrom-suc    a run in two, and a run of successors
@@ -36,6 +37,16 @@ map-inverse f g [] h = refl
 map-inverse f g (x ∷ xs) h = ap₂ _∷_ (h x (List·Memᴰ·head refl)) (map-inverse f g xs (λ y m. h y (List·Memᴰ·tail m)))
 
 module _ {A B : Type 0} where
+  pub map-take : (f : A → B) (n : ℕ) (xs : List A) → map f (take n xs) ≡ take n (map f xs)
+  map-take f zero xs = refl
+  map-take f (suc n) [] = refl
+  map-take f (suc n) (x ∷ xs) = ap (λ (l : List B). f x ∷ l) (map-take f n xs)
+
+  pub map-drop : (f : A → B) (n : ℕ) (xs : List A) → map f (drop n xs) ≡ drop n (map f xs)
+  map-drop f zero xs = refl
+  map-drop f (suc n) [] = refl
+  map-drop f (suc n) (x ∷ xs) = map-drop f n xs
+
   pub flatMap-same : (f g : A → List B) (xs : List A) → ((x : A) → List·Memᴰ x xs → f x ≡ g x) → flatMap f xs ≡ flatMap g xs
   unfolding flatMap
   flatMap-same f g [] h = refl
