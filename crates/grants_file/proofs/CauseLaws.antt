@@ -2,7 +2,7 @@
 --   Whole f, RightHeader f, RightLayout f i     no part of fault 10's cause, or of fault 11's in block 0 and in block i, holds
 --   wrongBlockCount-iff, wrongHeader-iff, wrongLayout-iff     which is that the cause does not
 --   Passes f                                    no cause of any fault holds
---   accepted-iff                                which is that the file is accepted
+--   accepted-iff, block-passes                  which is that the file is accepted; then no block has a cause
 -- Assumes nothing.
 use Prim.Native.Nat.{ℕ, zero, suc, _+_, _*_, _%_, _≤_, _<_}
 use mathlib.Core.Logic.{_↔_}
@@ -157,13 +157,16 @@ module _ (f : List ℕ) where
       checksum zero h = no-header-cause (block 0 h) .0
       checksum (suc i) h = no-record-cause i (block (suc i) h) .0
 
+  pub block-passes : Passes f → (i : ℕ) → i < blocksIn f → firstFault (blockCauses f i) ≡ none
+  unfolding firstFault blockCauses
+  block-passes p zero h = rw (p .checksums 0 h, p .header)
+  block-passes p (suc i) h = rw (p .checksums (suc i) h, p .layouts i h, p .records i h)
+
   passes-accepted : Passes f → Accepted f
-  unfolding fileCauses firstFault blockCauses
-  passes-accepted p = rw (p .count) (firstFault-flatMap (blockCauses f) (countFrom 0 (blocksIn f)) (λ i m. let inside = countFrom-mem 0 (blocksIn f) i m in block i (omega arith)))
-    where
-      block : (i : ℕ) → i < blocksIn f → firstFault (blockCauses f i) ≡ none
-      block zero h = rw (p .checksums 0 h, p .header)
-      block (suc i) h = rw (p .checksums (suc i) h, p .layouts i h, p .records i h)
+  unfolding fileCauses firstFault
+  passes-accepted p =
+      rw (p .count)
+      (firstFault-flatMap (blockCauses f) (countFrom 0 (blocksIn f)) (λ i m. let inside = countFrom-mem 0 (blocksIn f) i m in block-passes p i (omega arith)))
 
 pub accepted-iff : (f : List ℕ) → Accepted f ↔ Passes f
 accepted-iff f = (accepted-passes f, passes-accepted f)

@@ -2,7 +2,7 @@
 --   chunks-joined, length-chunk                          the grants of the blocks, joined, are the grants
 --   blockOf doors gs i                                   block i of a file
 --   length-, blockAt-, totalIn-, doorsIn-, recordsOf-, grantsIn-fileOf     what was written is read
---   fileOf-blocks, blocks-joined                         a file, and any whole blocks, as blocks in a row
+--   fileOf-blocks, length-blockAt, blocks-joined         a file, and any whole blocks, as blocks in a row
 --   grantsOf f i                                         the grants of block i of any bytes
 --   length-grantsIn, chunk-grantsIn, grantsIn-mem        any bytes give as many grants as they say, those of block i in its place
 -- Assumes nothing.
@@ -22,7 +22,7 @@ use Rattle.model.specs.Interval.{Interval}
 use Rattle.grants_file.specs.Bytes.{bytesAt}
 use Rattle.grants_file.specs.Record.{encodeRecord, decodeRecord}
 use Rattle.grants_file.specs.Block.{blockBytes, recordsPerBlock, sealed, headerBlock, recordBlock, recordsOf}
-use Rattle.grants_file.specs.File.{recordBlocks, blocksFor, countIn, chunk, fileOf, blockAt, totalIn, doorsIn, grantsIn}
+use Rattle.grants_file.specs.File.{recordBlocks, blocksFor, countIn, chunk, fileOf, blocksIn, blockAt, totalIn, doorsIn, grantsIn}
 use Rattle.grants_file.proofs.RecordLaws.{decode-encode}
 use Rattle.grants_file.proofs.BlockLaws.{length-headerBlock, length-recordBlock, recordsOf-recordBlock, length-decoded}
 
@@ -140,6 +140,9 @@ grantsIn-mem f g m =
     let place = mem-flatMap (λ (i : ℕ). grantsOf f (suc i)) (countFrom 0 n) g (rw (countFrom-suc 0 n, flatMap-map (grantsOf f)) at m) in
     let inside = countFrom-mem 0 n (place .0) (place .1) in
     (place .0, omega arith, place .2)
+
+pub length-blockAt : (f : List ℕ) (i : ℕ) → i < blocksIn f → length (blockAt f i) ≡ blockBytes
+length-blockAt f i h = simp (length-take, length-drop) (omega arith)
 
 pub blocks-joined : (f : List ℕ) (n : ℕ) → length f ≡ blockBytes * n → flatMap (blockAt f) (countFrom 0 n) ≡ f
 blocks-joined f n e = parts-joined blockBytes 0 n f ∙ take-all (blockBytes * n) f (omega arith)

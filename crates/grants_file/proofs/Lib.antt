@@ -6,3 +6,4 @@ pub mod BlockLaws
 pub mod FileLaws
 pub mod CauseLaws
 pub mod VerdictLaws
+pub mod OneByteLaws

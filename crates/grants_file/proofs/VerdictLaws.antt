@@ -12,7 +12,7 @@ use native.Mathlib.Omega.{arith}
 use native.Mathlib.Numerals.{sub-one}
 use native.Mathlib.Nat.{zero-add, mul-suc}
 use borrow.Author.Tests.{lt-leb}
-use lib.ListN.{length, take, drop, take-append-drop, drop-of-length-le, length-map, length-take, length-drop}
+use lib.ListN.{length, take, drop, take-append-drop, drop-of-length-le, length-map}
 use lib.Seq.{drop-drop, take-add}
 use Rattle.lists.specs.Ranges.{countFrom}
 use Rattle.lists.proofs.ListLaws.{countFrom-mem, flatMap-same, map-take, map-drop}
@@ -31,7 +31,7 @@ use Rattle.grants_file.proofs.BytesLaws.{bytesAt-below, be16At-below, b
 use Rattle.grants_file.proofs.RecordLaws.{decodeRecord-fits}
 use Rattle.grants_file.proofs.WrongRecordLaws.{lastNumber, lastNumber-append, RightGrant, wrongRecords-append, wrongRecords-kinds, wrongRecords-encode}
 use Rattle.grants_file.proofs.BlockLaws.{wrongChecksum-headerBlock, wrongStart-headerBlock, wrongPadding-headerBlock, wrongChecksum-recordBlock, wrongStart-recordBlock, countOf-recordBlock, wrongPadding-recordBlock, recordsOf-mem, headerBlock-take, recordBlock-take}
-use Rattle.grants_file.proofs.FileLaws.{blockOf, grantsOf, length-chunk, fileOf-blocks, length-fileOf, blockAt-fileOf, totalIn-fileOf, doorsIn-fileOf, recordsOf-fileOf, grantsIn-fileOf, length-grantsIn, chunk-grantsIn, grantsIn-mem, blocks-joined}
+use Rattle.grants_file.proofs.FileLaws.{blockOf, grantsOf, length-chunk, fileOf-blocks, length-fileOf, blockAt-fileOf, totalIn-fileOf, doorsIn-fileOf, recordsOf-fileOf, grantsIn-fileOf, length-grantsIn, chunk-grantsIn, grantsIn-mem, length-blockAt, blocks-joined}
 use Rattle.grants_file.proofs.CauseLaws.{Whole, wrongBlockCount-iff, RightHeader, wrongHeader-iff, RightLayout, wrongLayout-iff, Passes, accepted-iff}
 
 -- the last record of a full block, where another block follows
@@ -159,11 +159,6 @@ module _ (f : List ℕ) (below : Below byteValues f) (p : Passes f) where
   header : RightHeader f
   header = wrongHeader-iff f .0 (p .header)
 
-  block-long : (i : ℕ) → i < blocksIn f → length (blockAt f i) ≡ blockBytes
-  block-long i h =
-      let whole = wrongBlockCount-iff f .0 (p .count) .whole in
-      simp (length-take, length-drop) (omega arith)
-
   block-below : (i : ℕ) → Below byteValues (blockAt f i)
   block-below i = bytesAt-below byteValues f (blockBytes * i) blockBytes below
 
@@ -174,7 +169,7 @@ module _ (f : List ℕ) (below : Below byteValues f) (p : Passes f) where
   block-same : (i : ℕ) → i < blocksIn f → blockAt f i ≡ blockOf (doorsIn f) (grantsIn f) i
   unfolding blockOf grantsOf wrongRecordsIn
   block-same zero h =
-      headerBlock-take (blockAt f 0) (block-long 0 h) (block-below 0) (p .checksums 0 h) (header .start) (header .fill)
+      headerBlock-take (blockAt f 0) (length-blockAt f 0 h) (block-below 0) (p .checksums 0 h) (header .start) (header .fill)
       ∙ ap₂ headerBlock
       (first-number 6 (omega arith) ∙ sym (length-grantsIn f))
       (λ i. record { from = first-number 8 (omega arith) i; to = first-number 10 (omega arith) i })
@@ -183,7 +178,7 @@ module _ (f : List ℕ) (below : Below byteValues f) (p : Passes f) where
       let layout = wrongLayout-iff f (suc i) .0 (p .layouts i h) in
       let kinds = wrongRecords-kinds (doorsIn f) (lastBefore f (suc i)) (recordsOf b (countIn (totalIn f) (suc i))) (p .records i h) in
       let same = ap (recordsOf b) (layout .count) in
-      recordBlock-take b (block-long (suc i) h) (block-below (suc i)) (suc i) (omega (arith, layout .count)) (p .checksums (suc i) h) (layout .start) (layout .fill) (λ r m. kinds r (rw same at m))
+      recordBlock-take b (length-blockAt f (suc i) h) (block-below (suc i)) (suc i) (omega (arith, layout .count)) (p .checksums (suc i) h) (layout .start) (layout .fill) (λ r m. kinds r (rw same at m))
       ∙ ap (λ (rs : List (List ℕ)). recordBlock (suc i) (map decodeRecord rs)) same
       ∙ ap (recordBlock (suc i)) (sym (chunk-grantsIn f i (omega (arith, header .blocks))))
 
@@ -201,7 +196,7 @@ module _ (f : List ℕ) (below : Below byteValues f) (p : Passes f) where
       let place = grantsIn-mem f g m in
       let b = blockAt f (suc (place .0)) in
       let r = Memᴰ·of-map decodeRecord (recordsOf b (countIn (totalIn f) (suc (place .0)))) (place .2) in
-      let known = recordsOf-mem b (block-long (suc (place .0)) (omega (arith, place .1, header .blocks))) (block-below (suc (place .0))) (countIn (totalIn f) (suc (place .0))) (omega arith) (r .0) (r .1) in
+      let known = recordsOf-mem b (length-blockAt f (suc (place .0)) (omega (arith, place .1, header .blocks))) (block-below (suc (place .0))) (countIn (totalIn f) (suc (place .0))) (omega arith) (r .0) (r .1) in
       subst GrantFits (r .2) (decodeRecord-fits (r .0) (known .1))
 
   pub passes-set : FileSet (doorsIn f) (grantsIn f)
