@@ -3,12 +3,13 @@
 --   countOf-recordBlock, recordsOf-recordBlock              the records that were written
 --   length-decoded, recordsOf-mem                           as many grants as are read, each from 16 bytes
 --   sealed-take                                             512 bytes of right check and fill are sealed
+--   headerBlock-below, recordBlock-below                    what is written is bytes
 --   headerBlock-take, recordBlock-take                      block 0, or block i of known kinds, that passes was written
 -- Assumes nothing.
-use Prim.Native.Nat.{ℕ, _+_, _-_, _*_, _≤_}
+use Prim.Native.Nat.{ℕ, zero, suc, _+_, _-_, _*_, _≤_, _<_}
 use mathlib.Core.Path.{_≡_, refl, sym, ap, ap₂, _∙_}
 use mathlib.Core.Bool.{false, not}
-use mathlib.Core.List.{List, _++_, map, flatMap, append-assoc, List·Memᴰ, Memᴰ·of-map}
+use mathlib.Core.List.{List, _∷_, _++_, map, flatMap, append-assoc, List·Memᴰ, Memᴰ·of-map}
 use native.Mathlib.Omega.{arith}
 use native.Mathlib.Numerals.{add-one}
 use native.Mathlib.Nat.{div-add-mod'}
@@ -23,13 +24,14 @@ use Rattle.lists.proofs.ListLaws.{countFrom-mem, elements-joined, parts-joined,
 use Rattle.lists.proofs.OrLaws.{or-false-iff}
 use Rattle.model.specs.declared.Grant.{Grant}
 use Rattle.model.specs.Interval.{Interval}
-use Rattle.model.specs.Values.{byteValues, Below}
+use Rattle.model.specs.Values.{wordValues, byteValues, Below, GrantFits}
 use Rattle.checksum.specs.Checksum.{checksum}
+use Rattle.checksum.proofs.ChecksumLaws.{checksum-lt}
 use Rattle.grants_file.specs.Bytes.{be16, be16At, bytesAt}
 use Rattle.grants_file.specs.Record.{recordBytes, encodeRecord, decodeRecord, kindByte}
 use Rattle.grants_file.specs.Block.{blockBytes, checksumPlace, recordsPlace, headerEnd, recordsPerBlock, magic, sealed, headerBlock, recordBlock, countOf, recordsOf, wrongChecksum, wrongStart, wrongPadding}
-use Rattle.grants_file.proofs.BytesLaws.{bytesAt-below, be16-be16At}
-use Rattle.grants_file.proofs.RecordLaws.{length-encodeRecord, encode-decode}
+use Rattle.grants_file.proofs.BytesLaws.{below-nil, below-cons, below-append, below-flatMap, bytesAt-below, be16-below, be16-be16At}
+use Rattle.grants_file.proofs.RecordLaws.{length-encodeRecord, encodeRecord-below, encode-decode}
 
 -- what the check covers
 covered : List ℕ → List ℕ
@@ -189,13 +191,13 @@ module _ (b : List ℕ) (long : length b ≡ blockBytes) (below : Below byteValu
   records-joined : (n : ℕ) → n ≤ recordsPerBlock → ((r : List ℕ) → List·Memᴰ r (recordsOf b n) → kindByte r ≤ 1)
       → take (recordBytes * n) (drop recordsPlace b) ≡ flatMap encodeRecord (map decodeRecord (recordsOf b n))
   records-joined n few kinds =
-      let same : (r : List ℕ) → List·Memᴰ r (recordsOf b n) → encodeRecord (decodeRecord r) ≡ r =
-      λ r m. let known = recordsOf-mem n few r m in encode-decode r (known .0) (known .1) (kinds r m)
-      in
       sym (parts-joined recordBytes 0 n (drop recordsPlace b))
       ∙ sym (flatMap-map (λ r. r) _ (countFrom 0 n))
       ∙ ap (flatMap (λ r. r)) (sym (recordsOf-parts b n))
       ∙ sym (flatMap-map encodeRecord decodeRecord (recordsOf b n) ∙ flatMap-same _ _ (recordsOf b n) same)
+    where
+      same : (r : List ℕ) → List·Memᴰ r (recordsOf b n) → encodeRecord (decodeRecord r) ≡ r
+      same r m = let known = recordsOf-mem n few r m in encode-decode r (known .0) (known .1) (kinds r m)
 
   pub recordBlock-take : (i : ℕ) → countOf b ≤ recordsPerBlock → wrongChecksum b ≡ false → wrongStart b i ≡ false
       → wrongPadding b (recordsPlace + recordBytes * countOf b) ≡ false
@@ -207,3 +209,38 @@ module _ (b : List ℕ) (long : length b ≡ blockBytes) (below : Below byteValu
       sealed-take (recordsPlace + recordBytes * countOf b) (omega arith) right fill
       ∙ ap sealed (take-add recordsPlace (recordBytes * countOf b) b ∙ ap₂ _++_ front (records-joined (countOf b) few kinds))
       ∙ ap (λ (n : ℕ). sealed (opening i ++ be16 n ++ flatMap encodeRecord (map decodeRecord (recordsOf b (countOf b))))) (sym (length-decoded b (countOf b)))
+
+replicate-below : (n : ℕ) → Below byteValues (replicate n 0)
+replicate-below zero = below-nil byteValues
+replicate-below (suc n) = below-cons byteValues 0 (replicate n 0) (omega arith) (replicate-below n)
+
+sealed-below : (body : List ℕ) → Below byteValues body → Below byteValues (sealed body)
+unfolding sealed
+sealed-below body below =
+    below-append byteValues _ _
+    (below-append byteValues _ _ below (replicate-below (checksumPlace - length body)))
+    (be16-below (checksum (body ++ replicate (checksumPlace - length body) 0)) (omega (arith, checksum-lt (body ++ replicate (checksumPlace - length body) 0))))
+
+-- a number after what was written
+then-number : {bytes : List ℕ} (n : ℕ) → Below byteValues bytes → n < wordValues → Below byteValues (bytes ++ be16 n)
+then-number n below h = below-append byteValues _ _ below (be16-below n h)
+
+magic-below : Below byteValues magic
+magic-below = byte 0x4C (omega arith) (byte 0x47 (omega arith) (byte 0x46 (omega arith) (byte 0x31 (omega arith) (below-nil byteValues))))
+  where
+    byte : {rest : List ℕ} (x : ℕ) → x < byteValues → Below byteValues rest → Below byteValues (x ∷ rest)
+    byte {rest} x h below = below-cons byteValues x rest h below
+
+pub headerBlock-below : (n : ℕ) (doors : Interval) → n < wordValues → doors .from < wordValues → doors .to < wordValues → Below byteValues (headerBlock n doors)
+unfolding headerBlock
+headerBlock-below n doors h low high =
+    sealed-below _ (then-number (doors .to) (then-number (doors .from) (then-number n (then-number 0 magic-below (omega arith)) h) low) high)
+
+pub recordBlock-below : (i : ℕ) (gs : List Grant) → i < wordValues → length gs < wordValues → ((g : Grant) → List·Memᴰ g gs → GrantFits g)
+    → Below byteValues (recordBlock i gs)
+unfolding recordBlock
+recordBlock-below i gs h few fits =
+    sealed-below _
+    (below-append byteValues _ _
+    (then-number (length gs) (then-number i magic-below h) few)
+    (below-flatMap byteValues encodeRecord gs (λ g m. encodeRecord-below g (fits g m))))

@@ -12,9 +12,9 @@ use mathlib.Core.Path.{_≡_, refl, ap₂}
 use mathlib.Core.List.{List, [], _∷_, _++_, flatMap, List·Memᴰ, List·Memᴰ·head, List·Memᴰ·tail, List·Memᴰ·not-nil, List·Memᴰ·append-cases}
 use native.Mathlib.Nat.{add-assoc}
 use native.Mathlib.Omega.{arith}
-use lib.ListN.{getD, take, drop}
+use lib.ListN.{getD, drop}
 use lib.Seq.{getD-take, getD-drop}
-use Rattle.lists.proofs.ListLaws.{mem-flatMap}
+use Rattle.lists.proofs.ListLaws.{take-mem, drop-mem, mem-flatMap}
 use Rattle.model.specs.Values.{wordValues, byteValues, Below}
 use Rattle.grants_file.specs.Bytes.{be16, be16At, bytesAt}
 
@@ -39,14 +39,6 @@ pub getD-below : (n : ℕ) (xs : List ℕ) (i : ℕ) → 0 < n → Below n xs �
 getD-below n [] i h below = h
 getD-below n (x ∷ xs) zero h below = below x (List·Memᴰ·head refl)
 getD-below n (x ∷ xs) (suc i) h below = getD-below n xs i h (λ y m. below y (List·Memᴰ·tail m))
-
-take-mem : {A : Type 0} (n : ℕ) (xs : List A) (x : A) → List·Memᴰ x (take n xs) → List·Memᴰ x xs
-take-mem (suc n) (y ∷ ys) x (List·Memᴰ·head q) = List·Memᴰ·head q
-take-mem (suc n) (y ∷ ys) x (List·Memᴰ·tail m) = List·Memᴰ·tail (take-mem n ys x m)
-
-drop-mem : {A : Type 0} (n : ℕ) (xs : List A) (x : A) → List·Memᴰ x (drop n xs) → List·Memᴰ x xs
-drop-mem zero xs x m = m
-drop-mem (suc n) (y ∷ ys) x m = List·Memᴰ·tail (drop-mem n ys x m)
 
 pub bytesAt-below : (n : ℕ) (f : List ℕ) (at k : ℕ) → Below n f → Below n (bytesAt f at k)
 bytesAt-below n f at k below x m = below x (drop-mem at f x (take-mem k (drop at f) x m))

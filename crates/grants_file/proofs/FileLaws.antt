@@ -3,6 +3,7 @@
 --   blockOf doors gs i                                   block i of a file
 --   length-, blockAt-, totalIn-, doorsIn-, recordsOf-, grantsIn-fileOf     what was written is read
 --   fileOf-blocks, length-blockAt, blocks-joined         a file, and any whole blocks, as blocks in a row
+--   fileOf-below                                         the file of a set is bytes
 --   grantsOf f i                                         the grants of block i of any bytes
 --   length-grantsIn, chunk-grantsIn, grantsIn-mem        any bytes give as many grants as they say, those of block i in its place
 -- Assumes nothing.
@@ -16,15 +17,18 @@ use lib.ListN.{length, take, drop, length-append, length-take, length-drop}
 use lib.Seq.{take-all}
 use Rattle.lists.specs.Ranges.{countFrom}
 use Rattle.lists.proofs.RangeLaws.{length-countFrom}
-use Rattle.lists.proofs.ListLaws.{countFrom-suc, countFrom-mem, parts-joined, part-flatMap, map-inverse, flatMap-same, flatMap-map, length-flatMap, mem-flatMap}
+use Rattle.lists.proofs.ListLaws.{take-mem, drop-mem, countFrom-suc, countFrom-mem, parts-joined, part-flatMap, map-inverse, flatMap-same, flatMap-map, length-flatMap, mem-flatMap}
 use Rattle.model.specs.declared.Grant.{Grant}
 use Rattle.model.specs.Interval.{Interval}
+use Rattle.model.specs.Values.{byteValues, Below}
 use Rattle.grants_file.specs.Bytes.{bytesAt}
 use Rattle.grants_file.specs.Record.{encodeRecord, decodeRecord}
 use Rattle.grants_file.specs.Block.{blockBytes, recordsPerBlock, sealed, headerBlock, recordBlock, recordsOf}
 use Rattle.grants_file.specs.File.{recordBlocks, blocksFor, countIn, chunk, fileOf, blocksIn, blockAt, totalIn, doorsIn, grantsIn}
+use Rattle.grants_file.specs.FileSets.{FileSet}
+use Rattle.grants_file.proofs.BytesLaws.{below-flatMap}
 use Rattle.grants_file.proofs.RecordLaws.{decode-encode}
-use Rattle.grants_file.proofs.BlockLaws.{length-headerBlock, length-recordBlock, recordsOf-recordBlock, length-decoded}
+use Rattle.grants_file.proofs.BlockLaws.{headerBlock-below, recordBlock-below, length-headerBlock, length-recordBlock, recordsOf-recordBlock, length-decoded}
 
 flatMap-from-one : {A : Type 0} (f g : ℕ → List A) (n : ℕ) → ((i : ℕ) → i < n → f (suc i) ≡ g (suc i)) → flatMap f (countFrom 1 n) ≡ flatMap g (countFrom 1 n)
 flatMap-from-one f g n h =
@@ -44,6 +48,9 @@ chunks-joined gs =
 
 pub length-chunk : (i : ℕ) (gs : List Grant) → length (chunk i gs) ≡ countIn (length gs) i
 length-chunk i gs = rw (length-take, length-drop)
+
+chunk-mem : (i : ℕ) (gs : List Grant) (g : Grant) → List·Memᴰ g (chunk i gs) → List·Memᴰ g gs
+chunk-mem i gs g m = drop-mem (recordsPerBlock * (i - 1)) gs g (take-mem recordsPerBlock (drop (recordsPerBlock * (i - 1)) gs) g m)
 
 -- block i of a file
 unfoldable pub blockOf : Interval → List Grant → ℕ → List ℕ
@@ -146,3 +153,13 @@ length-blockAt f i h = simp (length-take, length-drop) (omega arith)
 
 pub blocks-joined : (f : List ℕ) (n : ℕ) → length f ≡ blockBytes * n → flatMap (blockAt f) (countFrom 0 n) ≡ f
 blocks-joined f n e = parts-joined blockBytes 0 n f ∙ take-all (blockBytes * n) f (omega arith)
+
+pub fileOf-below : (doors : Interval) (gs : List Grant) → FileSet doors gs → Below byteValues (fileOf doors gs)
+unfolding blockOf
+fileOf-below doors gs s = rw fileOf-blocks (below-flatMap byteValues (blockOf doors gs) (countFrom 0 (blocksFor (length gs))) (λ i m. block i (countFrom-mem 0 _ i m .1)))
+  where
+    block : (i : ℕ) → i < 0 + blocksFor (length gs) → Below byteValues (blockOf doors gs i)
+    block zero h = headerBlock-below (length gs) doors (omega (arith, s .few)) (omega (arith, s .doors .order, s .doors .fits)) (s .doors .fits)
+    block (suc i) h =
+        recordBlock-below (suc i) (chunk (suc i) gs) (omega (arith, s .few)) (omega (arith, length-chunk (suc i) gs))
+        (λ g m. s .each g (chunk-mem (suc i) gs g m) .fits)

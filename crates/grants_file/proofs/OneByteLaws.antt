@@ -154,22 +154,20 @@ module _ (f : List ℕ) (i v : ℕ) (below : Below byteValues f) (taken : Accept
   block-inside : i / blockBytes < blocksIn f
   block-inside = omega (arith, wrongBlockCount-iff f .0 (passes .count) .whole)
 
+  -- the byte in its block
+  getD-block : getD (blockAt f (i / blockBytes)) (i % blockBytes) 0 ≡ getD f i 0
+  getD-block =
+      let at = blockBytes * (i / blockBytes) in
+      let place : at + i % blockBytes ≡ i = omega arith in
+      getD-take blockBytes (drop at f) (i % blockBytes) 0 (omega arith) ∙ getD-drop at f (i % blockBytes) 0 ∙ ap (λ (j : ℕ). getD f j 0) place
+
   checksum-wrong : wrongChecksum (blockAt (set f i v) (i / blockBytes)) ≡ true
   checksum-wrong =
-      let at = i / blockBytes in
-      let place : blockBytes * at + i % blockBytes ≡ i = omega arith in
-      let read =
-      getD-take blockBytes (drop (blockBytes * at) f) (i % blockBytes) 0 (omega arith)
-      ∙ getD-drop (blockBytes * at) f (i % blockBytes) 0
-      ∙ ap (λ (j : ℕ). getD f j 0) place
-      in
-      rw (blockAt-set-same f i v)
-      (wrongChecksum-set (blockAt f at) (i % blockBytes) v (length-blockAt f at block-inside)
-      (bytesAt-below byteValues f (blockBytes * at) blockBytes below)
-      (omega arith)
-      byte
-      (λ e. other (e ∙ read))
-      (passes .checksums at block-inside))
+      let b = blockAt f (i / blockBytes) in
+      let bytes = bytesAt-below byteValues f (blockBytes * (i / blockBytes)) blockBytes below in
+      let long = length-blockAt f (i / blockBytes) block-inside in
+      let right = passes .checksums (i / blockBytes) block-inside in
+      rw (blockAt-set-same f i v) (wrongChecksum-set b (i % blockBytes) v long bytes (omega arith) byte (λ e. other (e ∙ getD-block)) right)
 
   count-set : wrongBlockCount (set f i v) ≡ false
   unfolding wrongBlockCount

@@ -79,13 +79,15 @@ module _ (doors : Interval) (gs : List Grant) where
   written-checksum zero h = rw (blockAt-fileOf doors gs 0 h) (wrongChecksum-headerBlock (length gs) doors)
   written-checksum (suc i) h = rw (blockAt-fileOf doors gs (suc i) h) (wrongChecksum-recordBlock (suc i) (chunk (suc i) gs) (omega (arith, length-chunk (suc i) gs)))
 
-  -- the records from block suc k on, and those of that block
+  -- the file's records
   abbrev records : List (List ℕ)
   records = map encodeRecord gs
 
+  -- the number of the last one before block suc k
   before : ℕ → ℕ
   before k = lastNumber 0 (take (recordsPerBlock * k) records)
 
+  -- one from that block on is wrong, and one of that block
   wrongFrom : ℕ → Bool
   wrongFrom k = wrongRecords doors (before k) (drop (recordsPerBlock * k) records)
 
@@ -123,11 +125,11 @@ module _ (doors : Interval) (gs : List Grant) where
   unfolding wrongRecordsIn wrongHere
   wrongRecordsIn-fileOf k h = rw (doorsIn-fileOf doors gs, lastBefore-fileOf k h, recordsOf-here k h)
 
-  -- the records of a written file are right exactly if its grants are a file's
   wrongFrom-end : wrongFrom (recordBlocks (length gs)) ≡ false
   unfolding wrongFrom wrongRecords
   wrongFrom-end = rw (drop-of-length-le records {i = recordsPerBlock * recordBlocks (length gs)} (omega (arith, length-map gs encodeRecord)))
 
+  -- no block's records are wrong exactly if the file's are not
   records-iff : ((k : ℕ) → k < recordBlocks (length gs) → wrongRecordsIn (fileOf doors gs) (suc k) ≡ false) ↔ (wrongRecords doors 0 records ≡ false)
   unfolding wrongFrom before lastNumber
   records-iff = (

@@ -4,6 +4,7 @@
 --   map-take, map-drop                 a front and a rest of a made list
 --   flatMap-append, flatMap-map, map-flatMap, length-flatMap
 --   mem-flatMap                        an element of the joined list is in the part of one element
+--   take-mem, drop-mem                 an element of a front, or of a rest, is in the list
 --   countFrom-append, countFrom-suc    a run in two, and a run of successors
 --   countFrom-mem                      what a run holds
 --   elements-joined                    a part of a list, element by element
@@ -82,6 +83,14 @@ module _ {A B : Type 0} where
           → (z : A) × List·Memᴰ z (x ∷ xs) × List·Memᴰ y (f z)
       go (inl i) rest = (x, List·Memᴰ·head refl, i)
       go (inr i) rest = let r = rest i in (r .0, List·Memᴰ·tail (r .1), r .2)
+
+pub take-mem : {A : Type 0} (n : ℕ) (xs : List A) (x : A) → List·Memᴰ x (take n xs) → List·Memᴰ x xs
+take-mem (suc n) (y ∷ ys) x (List·Memᴰ·head q) = List·Memᴰ·head q
+take-mem (suc n) (y ∷ ys) x (List·Memᴰ·tail m) = List·Memᴰ·tail (take-mem n ys x m)
+
+pub drop-mem : {A : Type 0} (n : ℕ) (xs : List A) (x : A) → List·Memᴰ x (drop n xs) → List·Memᴰ x xs
+drop-mem zero xs x m = m
+drop-mem (suc n) (y ∷ ys) x m = List·Memᴰ·tail (drop-mem n ys x m)
 
 pub countFrom-append : (k m n : ℕ) → countFrom k (m + n) ≡ countFrom k m ++ countFrom (k + m) n
 unfolding countFrom
