@@ -57,7 +57,9 @@ be16At-sealed : (body : List ℕ) → length body ≤ checksumPlace → be16At (
 unfolding covered sealed
 be16At-sealed body h =
     let sum = checksum (covered body) in
-    rw (getD-past (covered body) (be16 sum) checksumPlace 0 (length-covered body h), getD-past (covered body) (be16 sum) checksumPlace 1 (length-covered body h)) (div-add-mod' sum 256)
+    let high = getD-past (covered body) (be16 sum) checksumPlace 0 (length-covered body h) in
+    let low = getD-past (covered body) (be16 sum) checksumPlace 1 (length-covered body h) in
+    rw (high, low) (div-add-mod' sum 256)
 
 pub wrongChecksum-sealed : (body : List ℕ) → length body ≤ checksumPlace → wrongChecksum (sealed body) ≡ false
 unfolding wrongChecksum

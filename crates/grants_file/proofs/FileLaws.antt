@@ -102,11 +102,14 @@ module _ (doors : Interval) (gs : List Grant) where
   unfolding grantsIn
   grantsIn-fileOf =
       ap (λ (n : ℕ). flatMap read (countFrom 1 (recordBlocks n))) totalIn-fileOf
-      ∙ flatMap-from-one read (λ i. chunk i gs) (recordBlocks (length gs)) (λ i h. ap (map decodeRecord) (recordsOf-fileOf i h) ∙ map-inverse encodeRecord decodeRecord (chunk (suc i) gs) (λ g m. decode-encode g))
+      ∙ flatMap-from-one read (λ i. chunk i gs) (recordBlocks (length gs)) same
       ∙ chunks-joined gs
     where
       read : ℕ → List Grant
       read i = map decodeRecord (recordsOf (blockAt (fileOf doors gs) i) (countIn (totalIn (fileOf doors gs)) i))
+
+      same : (i : ℕ) → i < recordBlocks (length gs) → read (suc i) ≡ chunk (suc i) gs
+      same i h = ap (map decodeRecord) (recordsOf-fileOf i h) ∙ map-inverse encodeRecord decodeRecord (chunk (suc i) gs) (λ g m. decode-encode g)
 
 -- the grants of block i of any bytes
 unfoldable pub grantsOf : List ℕ → ℕ → List Grant

@@ -23,7 +23,7 @@ use Rattle.model.specs.Interval.{Interval}
 use Rattle.model.specs.Values.{byteValues, Below, GrantFits}
 use Rattle.grants_file.specs.Bytes.{be16At}
 use Rattle.grants_file.specs.Record.{encodeRecord, decodeRecord, wrongRecords}
-use Rattle.grants_file.specs.Block.{blockBytes, recordsPerBlock, headerBlock, recordBlock, recordsOf, wrongChecksum}
+use Rattle.grants_file.specs.Block.{blockBytes, recordsPerBlock, headerBlock, recordBlock, countOf, recordsOf, wrongChecksum}
 use Rattle.grants_file.specs.File.{recordBlocks, blocksFor, countIn, chunk, fileOf, blocksIn, blockAt, totalIn, doorsIn, grantsIn}
 use Rattle.grants_file.specs.Verdict.{lastBefore, wrongRecordsIn, accepted, verdict}
 use Rattle.grants_file.specs.FileSets.{Accepted, FileSet}
@@ -180,7 +180,13 @@ module _ (f : List ℕ) (below : Below byteValues f) (p : Passes f) where
       let layout = wrongLayout-iff f (suc i) .0 (p .layouts i h) in
       let kinds = wrongRecords-kinds (doorsIn f) (lastBefore f (suc i)) (recordsOf b (countIn (totalIn f) (suc i))) (p .records i h) in
       let same = ap (recordsOf b) (layout .count) in
-      recordBlock-take b (length-blockAt f (suc i) h) (block-below (suc i)) (suc i) (omega (arith, layout .count)) (p .checksums (suc i) h) (layout .start) (layout .fill) (λ r m. kinds r (rw same at m))
+      let few : countOf b ≤ recordsPerBlock = omega (arith, layout .count) in
+      recordBlock-take b (length-blockAt f (suc i) h) (block-below (suc i)) (suc i)
+      few
+      (p .checksums (suc i) h)
+      (layout .start)
+      (layout .fill)
+      (λ r m. kinds r (rw same at m))
       ∙ ap (λ (rs : List (List ℕ)). recordBlock (suc i) (map decodeRecord rs)) same
       ∙ ap (recordBlock (suc i)) (sym (chunk-grantsIn f i (omega (arith, header .blocks))))
 
@@ -198,7 +204,8 @@ module _ (f : List ℕ) (below : Below byteValues f) (p : Passes f) where
       let place = grantsIn-mem f g m in
       let b = blockAt f (suc (place .0)) in
       let r = Memᴰ·of-map decodeRecord (recordsOf b (countIn (totalIn f) (suc (place .0)))) (place .2) in
-      let known = recordsOf-mem b (length-blockAt f (suc (place .0)) (omega (arith, place .1, header .blocks))) (block-below (suc (place .0))) (countIn (totalIn f) (suc (place .0))) (omega arith) (r .0) (r .1) in
+      let long = length-blockAt f (suc (place .0)) (omega (arith, place .1, header .blocks)) in
+      let known = recordsOf-mem b long (block-below (suc (place .0))) (countIn (totalIn f) (suc (place .0))) (omega arith) (r .0) (r .1) in
       subst GrantFits (r .2) (decodeRecord-fits (r .0) (known .1))
 
   pub passes-set : FileSet (doorsIn f) (grantsIn f)
