@@ -22,7 +22,7 @@ use Rattle.model.specs.Arguments.{reversedBox, zeroNumber, unknownKind}
 use Rattle.model.specs.Call.{Request, requested}
 use Rattle.model.specs.Values.{GrantFits, RequestFits}
 use Rattle.model.specs.Book.{Book, withLive, isLive, bookGrant}
-use Rattle.model.proofs.RefusalLaws.{no-fault}
+use Rattle.model.proofs.RefusalLaws.{causes-absent}
 use Rattle.model.proofs.Simulation.{Agrees, refusing-agrees}
 use Rattle.geometry.specs.Region.{rootRegion}
 use Rattle.geometry.specs.Point.{inside, pointOf}
@@ -114,10 +114,10 @@ module _ {w : List ℕ} {b : Book} (h : Represents w b) (r : Request) (fits : Re
 
   granted : firstFault causes ≡ none → Represents (grantedWords w r (requestWay w r)) (withLive b (insertBy numberOf (requested r) (b .live)))
   granted e =
-      let zero = no-fault _ _ e in
-      let upright = no-fault _ _ (no-fault _ _ (zero .1) .1) in
-      let new = no-fault _ _ (upright .1) in
-      let full = no-fault _ _ (new .1) in
+      let zero = causes-absent _ _ e in
+      let upright = causes-absent _ _ (causes-absent _ _ (zero .1) .1) in
+      let new = causes-absent _ _ (upright .1) in
+      let full = causes-absent _ _ (new .1) in
       go (h .free) (h .linked) (represents-count h) (eqb-false (r .number) 0 (zero .0)) (upright .0) (new .0) (eqb-false (length (b .live)) (b .capacity) (full .0))
     where
       go : (ks : List ℕ) → Linked w (b .capacity) (h .tree) ks → length (b .live) + length ks ≡ b .capacity → ¬ (r .number ≡ 0) → reversedBox (r .bounds) ≡ false

@@ -19,7 +19,7 @@ use Rattle.model.specs.declared.Fault.the-variants.{ZeroNumber, NotLive}
 use Rattle.model.specs.Refusal.{Cause, _if_, firstFault}
 use Rattle.model.specs.Arguments.{zeroNumber}
 use Rattle.model.specs.Book.{Book, withLive, isLive, bookRevoke}
-use Rattle.model.proofs.RefusalLaws.{no-fault}
+use Rattle.model.proofs.RefusalLaws.{causes-absent}
 use Rattle.model.proofs.Simulation.{Agrees, refusing-agrees}
 use Rattle.geometry.specs.Levels.{levels}
 use Rattle.geometry.specs.Region.{Region}
@@ -128,7 +128,7 @@ module _ {w : List ℕ} {b : Book} (h : Represents w b) (n : ℕ) where
       → Represents (revokedWords w (firstHit (numberSearch w n)) (firstSpotOf (numberSearch w n) .link) (removalOf w (numberSearch w n)))
       (withLive b (keep (λ g. not (eqb (g .number) n)) (b .live)))
   revoked e =
-      let live = no-fault _ _ (no-fault _ _ e .1) in
+      let live = causes-absent _ _ (causes-absent _ _ e .1) in
       let found = first-found (not-false (isLive b n) (live .0)) in
       let ends = removal-ends found in
       rw (ends, found .first, found .place)

@@ -9,3 +9,5 @@ pub mod CountLaws
 pub mod SortLaws
 pub mod KeyLaws
 pub mod EveryLaws
+pub mod ListLaws
+pub mod OrLaws
