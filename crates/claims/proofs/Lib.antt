@@ -3,3 +3,4 @@ pub mod Cases
 pub mod MarkedCases
 pub mod TriedCases
 pub mod Answers
+pub mod NeverBroken

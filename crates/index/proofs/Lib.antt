@@ -7,3 +7,5 @@ pub mod GrantLaws
 pub mod RevokeLaws
 pub mod CallLaws
 pub mod HoldsLaws
+pub mod WriteLaws
+pub mod SoundLaws
