@@ -42,7 +42,7 @@ use Rattle.index.specs.Causes.{wayLost, grantBroken}
 use Rattle.index.specs.Order.{grantOrder}
 use Rattle.index.specs.Calls.{grantCall, grantedWords}
 use Rattle.index.proofs.Represents.{numberOf, Carried, Represents, represents-pool, represents-capacity, represents-count, cells-distinct}
-use Rattle.index.proofs.NumberLaws.{number-found, numberLive-isLive, not-live}
+use Rattle.index.proofs.LiveNumberLaws.{number-found, numberLive-isLive, not-live}
 
 -- the words v with the cell k put in, which carries g
 module _ {w v : List ℕ} {b : Book} {k : ℕ} {ks : List ℕ} {g : Grant} (h : Represents w b) (linked : Linked w (b .capacity) (h .tree) (k ∷ ks))

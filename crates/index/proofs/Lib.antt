@@ -2,7 +2,7 @@
 pub mod Represents
 pub mod QueryLaws
 pub mod StartLaws
-pub mod NumberLaws
+pub mod LiveNumberLaws
 pub mod GrantLaws
 pub mod RevokeLaws
 pub mod CallLaws

@@ -3,10 +3,12 @@
 --   Represents w b         the links hold together (adt/proofs/Linked), each cell of the tree carries such a grant, no two of one number,
 --                          and these grants, sorted, are the live ones
 --   represents-pool, represents-capacity     no fault 1; C is the book's
---   represents-fits        the grants in the cells fit
---   represents-live        the live grants are those in the cells
---   represents-rises       they ascend by number
---   represents-count       free cells are left exactly as many as C less live
+--   represents-cell, represents-fits         the grants in the cells of the tree, each in its cell; they fit
+--   represents-live, live-represents         the live grants are these
+--   live-distinct, represents-rises          their numbers differ, and ascend
+--   represents-count       live grants and free cells are C together
+--   cells-distinct         no cell is in the tree twice
+--   represents-finds       what every search finds in the tree
 --   Hits w gs t s          the search s is whole, and hits those of the grants gs that pass t
 --   represents-hits        so does every search whose range says of each grant what t says
 -- Assumes nothing.

@@ -43,7 +43,7 @@ use Rattle.index.specs.Causes.{numberLive, descentLost, revokeBroken}
 use Rattle.index.specs.Order.{revokeOrder}
 use Rattle.index.specs.Calls.{revokeCall, revokedWords}
 use Rattle.index.proofs.Represents.{Carried, Represents, represents-pool, represents-finds}
-use Rattle.index.proofs.NumberLaws.{number-found, numberLive-isLive}
+use Rattle.index.proofs.LiveNumberLaws.{number-found, numberLive-isLive}
 
 -- the words v without the cell k
 module _ {w v : List ℕ} {b : Book} {k : ℕ} (h : Represents w b) (done : Removed w v (b .capacity) (h .tree) k (h .free)) where
