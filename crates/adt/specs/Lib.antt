@@ -6,3 +6,4 @@ pub mod Remove
 pub mod Links
 pub mod Reach
 pub mod SearchMemory
+pub mod WalkResult

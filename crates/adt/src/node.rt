@@ -5,10 +5,12 @@ ghost use lib.ListN.{length};
 ghost use Rattle.model.specs.Limits.{maxGrants};
 ghost use Rattle.geometry.specs.Point.{pointOf};
 ghost use Rattle.pool.specs.Capacity.{poolLength};
-ghost use Rattle.adt.specs.Node.{pointAt};
+ghost use Rattle.adt.specs.Node.{linkPlace, pointAt};
+use geometry::Side;
 use model::Grant;
 use pool::Field;
 use pool::layout::field;
+use pool::layout::place_of;
 
 pub fn wide(x: u16) -> usize
     ensures { λ r. ⌜ (r ≡ x) × (r < 65536) ⌝ }
@@ -46,4 +48,15 @@ pub fn point_at(pool: &[u16], cell: usize) -> [u16; 7]
         field(pool, cell, Field::QuarterTo),
         field(pool, cell, Field::Number),
     ]
+}
+
+// The place of a cell's link to its son on a side.
+pub fn link_place(cell: usize, side: Side) -> usize
+    requires { ⌜ (0 < cell) × (cell ≤ maxGrants) ⌝ }
+    ensures { λ r. ⌜ (r ≡ linkPlace cell side) × (r < poolLength cell) ⌝ }
+{
+    match side {
+        Side::Left => place_of(cell, Field::Left),
+        Side::Right => place_of(cell, Field::Right),
+    }
 }

@@ -4,3 +4,4 @@ pub mod MarkedCases
 pub mod TriedCases
 pub mod Answers
 pub mod NeverBroken
+pub mod Demand1

@@ -9,3 +9,6 @@ pub mod CallLaws
 pub mod HoldsLaws
 pub mod WriteLaws
 pub mod SoundLaws
+pub mod LinkCauseLaws
+pub mod OrderLaws
+pub mod FindLaws

@@ -5,3 +5,5 @@ pub mod LinkCauses
 pub mod Order
 pub mod Calls
 pub mod FileCalls
+pub mod Contract
+pub mod NumberSearch

@@ -5,3 +5,5 @@ pub mod Simulation
 pub mod RefusalLaws
 pub mod SoundLaws
 pub mod BookLaws
+pub mod AnswerLaws
+pub mod JudgedLaws

@@ -1,6 +1,8 @@
 // The types of the interface (document 01, "The plain book", "The grants file" and "Faults").
 // specs/ says what they mean: Fault and Answer give document 01's number and values of each case.
 
+pub mod bounds;
+
 // Document 01's kind of a grant: 0 bars, 1 opens.
 pub enum Kind {
     Bars,

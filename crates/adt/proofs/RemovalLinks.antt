@@ -1,0 +1,55 @@
+-- The removal walk that stops and document 01's links of it are one walk: it is lost exactly where they are broken.
+--   lostDescent          a walk as a test
+--   follow-lost          from any cell on the walk
+--   terminalFrom-lost    the whole walk from a cell at its own spot; terminalFrom-lost-iff the same as a fact
+-- Assumes nothing.
+use Prim.Native.Nat.{ℕ, zero, suc, _+_, _-_, _≤_}
+use mathlib.Core.Logic.{_↔_}
+use mathlib.Core.Path.{_≡_, refl, ap}
+use mathlib.Core.Bool.{Bool, true, false, cond, false≢true}
+use mathlib.Core.List.{List, []}
+use lib.Dec.{eqb}
+use lib.ListN.{getD}
+use native.Mathlib.Omega.{arith}
+use Rattle.geometry.specs.Levels.{levels}
+use Rattle.pool.specs.Capacity.{capacityOf}
+use Rattle.adt.specs.Search.{Spot}
+use Rattle.adt.specs.Remove.{Descent, lost, terminal, nextLink, follow, terminalFrom}
+use Rattle.adt.specs.Links.{Link, brokenBy, removalFrom, removalLinks}
+use Rattle.adt.proofs.LinkLaws.{brokenBy-deep, brokenBy-blank, brokenBy-next}
+
+abbrev pub lostDescent : Descent → Bool
+lostDescent lost = true
+lostDescent (terminal leaf at) = false
+
+lostDescent-cond : (b : Bool) (x y : Descent) → lostDescent (cond b x y) ≡ cond b (lostDescent x) (lostDescent y)
+lostDescent-cond true x y = refl
+lostDescent-cond false x y = refl
+
+-- the cell k is at level l, n levels above the last
+pub follow-lost : (w : List ℕ) (c n l k at met : ℕ) → l + n ≡ levels → met ≤ c
+    → lostDescent (follow w c n k at met) ≡ brokenBy c met (removalFrom w n l k)
+unfolding follow removalFrom
+follow-lost w c zero l k at met depth few =
+    let next = getD w (nextLink w k) 0 in
+    let here : Link = record { level = suc l; to = next } in
+    rw (lostDescent-cond, brokenBy-blank, brokenBy-deep c met here [] (omega arith))
+follow-lost w c (suc n) l k at met depth few =
+    let next = getD w (nextLink w k) 0 in
+    let here : Link = record { level = suc l; to = next } in
+    let rest = follow-lost w c n (suc l) next (nextLink w k) (suc met) (omega arith) in
+    rw (lostDescent-cond, lostDescent-cond, brokenBy-blank)
+    (ap (cond (eqb next 0) false) (brokenBy-next c met here (removalFrom w n (suc l) next) _ (omega arith) rest))
+
+pub terminalFrom-lost : (w : List ℕ) (k : ℕ) (here : Spot) → here .level ≤ levels → 1 ≤ capacityOf w
+    → lostDescent (terminalFrom w k here) ≡ brokenBy (capacityOf w) 1 (removalLinks w k (here .level))
+unfolding terminalFrom removalLinks
+terminalFrom-lost w k here above some = follow-lost w (capacityOf w) (levels - here .level) (here .level) k (here .link) 1 (omega arith) some
+
+lostDescent-iff : (d : Descent) → (d ≡ lost) ↔ (lostDescent d ≡ true)
+lostDescent-iff lost = (λ e. refl, λ e. refl)
+lostDescent-iff (terminal leaf at) = (λ e. ap lostDescent e, λ e. absurd (false≢true e))
+
+pub terminalFrom-lost-iff : (w : List ℕ) (k : ℕ) (here : Spot) → here .level ≤ levels → 1 ≤ capacityOf w
+    → (terminalFrom w k here ≡ lost) ↔ (brokenBy (capacityOf w) 1 (removalLinks w k (here .level)) ≡ true)
+terminalFrom-lost-iff w k here above some = rw (terminalFrom-lost w k here above some) at (lostDescent-iff (terminalFrom w k here))

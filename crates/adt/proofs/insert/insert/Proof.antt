@@ -1,0 +1,46 @@
+-- `insert::insert` meets its contract: its stores are those of `inserted`. Assumes nothing.
+use Rattle.pool.proofs.CellLaws.{length-withCell}
+use lib.Seq.{lt-length-set}
+use lib.ListN.{length}
+use mathlib.Core.Path.{_≡_, ap, _∙_}
+use native.Mathlib.Omega.{arith}
+use Rattle.adt.specs.Insert.{inserted}
+use borrow.Author.Needs.{needs}
+use Rattle.adt.proofs.insert.insert.Statement.{statement}
+use Rattle.adt.proofs.insert.insert.Tie as tie
+
+store-grant-requires : tie.Need-store-grant-requires
+store-grant-requires c κs = search needs
+
+cast-pool : tie.Need-cast-pool
+cast-pool c = search needs
+
+mul-pool : tie.Need-mul-pool
+mul-pool c = search needs
+
+slice-write-pool : tie.Need-slice-write-pool
+slice-write-pool c = search needs
+
+slice-write-pool-2 : tie.Need-slice-write-pool-2
+slice-write-pool-2 c =
+    let p = c .before .before .before .before .before .pre in
+    lt-length-set (c .before .before .store-grant .last .0) _ _ (omega (arith, ap length (c .before .before .store-grant .ensures) ∙ length-withCell _ _ _, p .2, p .0))
+
+same-length : tie.Need-same-length
+same-length c = search needs
+
+returns : tie.Need-returns
+unfolding inserted
+returns c = let p = c .before .before .before .before .before .pre in rw (c .before .before .store-grant .ensures, p .5, ← p .4)
+
+pub insert-spec : {M : Type 1} → statement M
+insert-spec =
+    tie.close
+    (tie.spec
+    store-grant-requires
+    cast-pool
+    mul-pool
+    slice-write-pool
+    slice-write-pool-2
+    same-length
+    returns)

@@ -1,0 +1,67 @@
+// Insertion: a new point goes down from the root by the half that holds it, to the first blank link; the free head's cell is hung there.
+ghost use mathlib.Core.Path.{_≡_};
+ghost use Prim.Native.Nat.{_<_, _≤_};
+ghost use lib.ListN.{length};
+ghost use Rattle.model.specs.Limits.{maxGrants};
+ghost use Rattle.geometry.specs.Axis.{axes};
+ghost use Rattle.pool.specs.Capacity.{poolLength};
+ghost use Rattle.adt.specs.Node.{linkPlace};
+ghost use Rattle.adt.specs.Insert.{descend, freeHead, nextFree, inserted};
+ghost use Rattle.adt.specs.WalkResult.{wayOf};
+use crate::node::link_place;
+use crate::node::wide;
+use geometry::axis::LEVELS;
+use geometry::axis::axis_of;
+use geometry::region::halve;
+use geometry::region::root_region;
+use geometry::region::side_of;
+use model::Grant;
+use pool::cell::store_grant;
+use pool::layout::FREE;
+use pool::layout::ROOT;
+
+// Where a way down ends: at a cause of fault 9, or at the place of the blank link.
+pub enum Slot {
+    Lost,
+    At(usize),
+}
+
+// The way down of a point.
+pub fn find_slot(pool: &[u16], cells: usize, point: [u16; 7]) -> Slot
+    requires { ⌜ (cells ≤ maxGrants) × (length (now pool) ≡ poolLength cells) ⌝ }
+    ensures { λ r. ⌜ wayOf r ≡ descend (now (pool .entry)) point ⌝ }
+{
+    let mut region = root_region();
+    let mut link: usize = ROOT;
+    let mut below: usize = LEVELS + 1;
+    let mut met: usize = 0;
+    while 0 < below {
+        below -= 1;
+        let k = wide(pool[link]);
+        if k == 0 {
+            return Slot::At(link);
+        }
+        if cells < k {
+            return Slot::Lost;
+        }
+        if cells <= met {
+            return Slot::Lost;
+        }
+        let axis = axis_of(LEVELS - below);
+        let side = side_of(&region, axis, point[axis]);
+        region = halve(side, region, axis);
+        link = link_place(k, side);
+        met += 1;
+    }
+    Slot::Lost
+}
+
+// Hangs the free head's cell at the blank link with the grant in it; the free head moves on to the next free cell.
+pub fn insert(pool: &mut [u16], link: usize, free: usize, next: u16, g: Grant)
+    requires { ⌜ (0 < free) × (free ≤ maxGrants) × (poolLength free ≤ length (now pool)) × (link < length (now pool)) × (free ≡ freeHead (now pool)) × (next ≡ nextFree (now pool)) ⌝ }
+    ensures { λ r. ⌜ now (pool .exit) ≡ inserted (now (pool .entry)) link g ⌝ }
+{
+    store_grant(pool, free, g);
+    pool[link] = free as u16;
+    pool[FREE] = next;
+}

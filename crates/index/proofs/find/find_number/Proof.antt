@@ -1,0 +1,51 @@
+-- `find::find_number` meets its contract: what the memory of the search says. Assumes nothing.
+use Rattle.index.proofs.FindLaws.{number-broken, number-absent, number-at}
+use borrow.Author.Tests.{not-true, not-false}
+use borrow.Author.Needs.{needs}
+use Rattle.index.proofs.find.find_number.Statement.{statement}
+use Rattle.index.proofs.find.find_number.Tie as tie
+
+range-of-number-requires : tie.Need-range-of-number-requires
+range-of-number-requires c κs = search needs
+
+search-requires : tie.Need-search-requires
+search-requires c κs = search needs
+
+returns : tie.Need-returns
+returns c = number-broken (c .before .before .before .before .before .before .before .args .pool .now) _ _ _ (c .before .before .before .before .before .range-of-number .ensures) (c .before .before .before .before .before .before .before .pre .0) (c .before .before .before .before .before .before .before .pre .1) (c .before .search .ensures) (not-true _ (c .if1 .taken))
+
+array-read-if2 : tie.Need-array-read-if2
+array-read-if2 c = search needs
+
+returns-2 : tie.Need-returns-2
+returns-2 c = number-absent (c .before .before .before .before .before .before .before .before .args .pool .now) _ _ _ (c .before .before .before .before .before .before .range-of-number .ensures) (c .before .before .before .before .before .before .before .before .pre .0) (c .before .before .before .before .before .before .before .before .pre .1) (c .before .before .search .ensures) (not-false _ (c .before .if1 .left)) (c .if2 .taken)
+
+array-read-wide : tie.Need-array-read-wide
+array-read-wide c = search needs
+
+wide-requires : tie.Need-wide-requires
+wide-requires c κs = search needs
+
+array-read-t21 : tie.Need-array-read-t21
+array-read-t21 c = search needs
+
+array-read-t24 : tie.Need-array-read-t24
+array-read-t24 c = search needs
+
+returns-3 : tie.Need-returns-3
+returns-3 c = rw (c .wide .ensures .0) (number-at (c .before .before .before .before .before .before .before .before .before .args .pool .now) _ _ _ (c .before .before .before .before .before .before .before .range-of-number .ensures) (c .before .before .before .before .before .before .before .before .before .pre .0) (c .before .before .before .before .before .before .before .before .before .pre .1) (c .before .before .before .search .ensures) (not-false _ (c .before .before .if1 .left)) (c .before .if2 .left))
+
+pub find-number-spec : {M : Type 1} → statement M
+find-number-spec =
+    tie.close
+    (tie.spec
+    range-of-number-requires
+    search-requires
+    returns
+    array-read-if2
+    returns-2
+    array-read-wide
+    wide-requires
+    array-read-t21
+    array-read-t24
+    returns-3)

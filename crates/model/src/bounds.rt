@@ -1,0 +1,46 @@
+// Tests of boxes: when two overlap (source 001, condition 5), and when one has a from above its to.
+ghost use mathlib.Core.Path.{_≡_};
+ghost use Rattle.model.specs.Interval.{reversed};
+ghost use Rattle.model.specs.Overlap.{overlapOn, overlaps};
+ghost use Rattle.model.specs.Arguments.{reversedBox};
+use crate::Box;
+
+// Whether two closed ranges share a value.
+pub fn overlap_on(from: u16, to: u16, other_from: u16, other_to: u16) -> bool
+    ensures { λ r. ⌜ r ≡ overlapOn (record { from = from; to = to }) (record { from = «other_from»; to = «other_to» }) ⌝ }
+{
+    if from <= other_to {
+        other_from <= to
+    } else {
+        false
+    }
+}
+
+// Whether two boxes overlap on staff, doors and quarters alike.
+pub fn overlap(a: Box, b: Box) -> bool
+    ensures { λ r. ⌜ r ≡ overlaps a b ⌝ }
+{
+    let staff = overlap_on(a.staff_from, a.staff_to, b.staff_from, b.staff_to);
+    let doors = overlap_on(a.door_from, a.door_to, b.door_from, b.door_to);
+    let quarters = overlap_on(a.quarter_from, a.quarter_to, b.quarter_from, b.quarter_to);
+    if staff {
+        if doors {
+            return quarters;
+        }
+        return false;
+    }
+    false
+}
+
+// Whether a from lies above its to: fault 2.
+pub fn is_reversed(b: Box) -> bool
+    ensures { λ r. ⌜ r ≡ reversedBox b ⌝ }
+{
+    if b.staff_to < b.staff_from {
+        return true;
+    }
+    if b.door_to < b.door_from {
+        return true;
+    }
+    b.quarter_to < b.quarter_from
+}
