@@ -22,8 +22,10 @@ pub mod FreshLaws
 pub mod ExchangeLaws
 pub mod Linked
 pub mod InsertLaws
+pub mod ChainLaws
 pub mod FollowLaws
 pub mod UnlinkLaws
 pub mod RemoveLaws
 pub mod LiveLaws
 pub mod CarriesLaws
+pub mod ReachLaws

@@ -2,4 +2,6 @@
 pub mod Cases
 pub mod MarkedCases
 pub mod TriedCases
+pub mod Answers
+pub mod NeverBroken
 pub mod Demand1

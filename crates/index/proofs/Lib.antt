@@ -1,4 +1,14 @@
 -- Laws of the calls, for the crates above.
+pub mod Represents
+pub mod QueryLaws
+pub mod StartLaws
+pub mod LiveNumberLaws
+pub mod GrantLaws
+pub mod RevokeLaws
+pub mod CallLaws
+pub mod HoldsLaws
+pub mod WriteLaws
+pub mod SoundLaws
 pub mod LinkCauseLaws
 pub mod OrderLaws
 pub mod FindLaws

@@ -7,3 +7,7 @@ pub mod DistinctLaws
 pub mod PermLaws
 pub mod CountLaws
 pub mod SortLaws
+pub mod KeyLaws
+pub mod EveryLaws
+pub mod ListLaws
+pub mod OrLaws

@@ -1,4 +1,9 @@
 -- Laws of the model, for the crates above.
 pub mod OverlapLaws
+pub mod DecideLaws
+pub mod Simulation
+pub mod RefusalLaws
+pub mod SoundLaws
+pub mod BookLaws
 pub mod AnswerLaws
 pub mod JudgedLaws

@@ -1,0 +1,2 @@
+-- Laws of the check, for the crates above.
+pub mod ChecksumLaws

@@ -1,0 +1,9 @@
+-- Laws of the grants file, for the crates above.
+pub mod BytesLaws
+pub mod RecordLaws
+pub mod WrongRecordLaws
+pub mod BlockLaws
+pub mod FileLaws
+pub mod CauseLaws
+pub mod VerdictLaws
+pub mod OneByteLaws

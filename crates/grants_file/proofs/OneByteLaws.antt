@@ -1,0 +1,193 @@
+-- An accepted file with exactly one byte changed is refused with 12 and that byte's block (document 01, "The grants file"; demand 2).
+--   wrongChecksum-set      one byte changed in a block of right check
+--   blockAt-set-same, blockAt-set-other     the byte's block, and a block before it
+--   blockCauses-set        the causes of a block before it are as they were
+--   one-byte               the refusal
+-- Assumes nothing.
+use Prim.Native.Nat.{ℕ, zero, suc, _+_, _-_, _*_, _/_, _%_, _≤_, _<_}
+use mathlib.Core.Logic.{_≢_}
+use mathlib.Core.Path.{_≡_, sym, ap, _∙_}
+use mathlib.Core.Bool.{true, false, not}
+use mathlib.Core.List.{List, _++_, flatMap}
+use mathlib.Core.Option.{none, some}
+use native.Mathlib.Omega.{arith}
+use native.Mathlib.Decide.{decLt, ℕ-discrete}
+use native.Mathlib.Nat.{zero-add}
+use borrow.Author.Tests.{eqb-true, ne-eqb, not-false}
+use lib.ListN.{length, getD, take, drop, set, length-set, length-take}
+use lib.Seq.{getD-set-same, getD-set-other, getD-take, getD-drop, take-set-le, take-set-lt, drop-set-add}
+use Rattle.lists.specs.Ranges.{countFrom}
+use Rattle.lists.proofs.ListLaws.{countFrom-append, countFrom-mem, flatMap-append}
+use Rattle.model.specs.declared.Fault.the-variants.{BadChecksum}
+use Rattle.model.specs.Refusal.{Cause, firstFault}
+use Rattle.model.specs.Values.{byteValues, Below}
+use Rattle.model.proofs.RefusalLaws.{firstFault-append, firstFault-flatMap}
+use Rattle.checksum.specs.Checksum.{checksum}
+use Rattle.checksum.proofs.ChecksumLaws.{checksum-set-changes}
+use Rattle.grants_file.specs.Bytes.{be16At}
+use Rattle.grants_file.specs.Block.{blockBytes, checksumPlace, wrongChecksum}
+use Rattle.grants_file.specs.File.{blocksIn, blockAt, doorsIn}
+use Rattle.grants_file.specs.Verdict.{wrongBlockCount, wrongHeader, wrongLayout, lastBefore, wrongRecordsIn, blockCauses, fileCauses}
+use Rattle.grants_file.specs.FileSets.{Accepted}
+use Rattle.grants_file.proofs.BytesLaws.{getD-below, bytesAt-below}
+use Rattle.grants_file.proofs.CauseLaws.{wrongBlockCount-iff, Passes, accepted-iff, block-passes}
+use Rattle.grants_file.proofs.FileLaws.{length-blockAt}
+
+module _ (b : List ℕ) (i v : ℕ) (long : length b ≡ blockBytes) (below : Below byteValues b) (inside : i < blockBytes) (byte : v < byteValues) (other : v ≢ getD b i 0) where
+  -- the check of other bytes is another
+  bytes-differ : i < checksumPlace → be16At b checksumPlace ≡ checksum (take checksumPlace b)
+      → be16At (set b i v) checksumPlace ≡ checksum (take checksumPlace (set b i v)) → ⊥
+  bytes-differ h was is =
+      let high = getD-set-other b i checksumPlace v 0 (omega arith) in
+      let low = getD-set-other b i (checksumPlace + 1) v 0 (omega arith) in
+      let stored : be16At (set b i v) checksumPlace ≡ be16At b checksumPlace = cc in
+      let read = getD-take checksumPlace b i 0 h in
+      checksum-set-changes (take checksumPlace b) i v
+      (omega (arith, length-take checksumPlace b))
+      (omega (arith, getD-below byteValues b i (omega arith) below))
+      byte
+      (λ e. omega arith)
+      (ap checksum (sym (take-set-lt checksumPlace b i v h)) ∙ sym is ∙ stored ∙ was)
+
+  -- or the stored one is
+  stored-differs : checksumPlace ≤ i → be16At b checksumPlace ≡ checksum (take checksumPlace b)
+      → be16At (set b i v) checksumPlace ≡ checksum (take checksumPlace (set b i v)) → ⊥
+  stored-differs h was is = go (ℕ-discrete i checksumPlace)
+    where
+      same : be16At (set b i v) checksumPlace ≡ be16At b checksumPlace
+      same = is ∙ ap checksum (take-set-le checksumPlace b i v h) ∙ sym was
+
+      now : getD (set b i v) i 0 ≡ v
+      now = getD-set-same b i v 0 (omega arith)
+
+      go : Dec (i ≡ checksumPlace) → ⊥
+      go (yes e) =
+          let new = ap (λ (j : ℕ). getD (set b i v) j 0) (sym e) ∙ now in
+          let low = getD-set-other b i (checksumPlace + 1) v 0 (omega arith) in
+          let old = ap (λ (j : ℕ). getD b j 0) e in
+          omega (arith, same)
+      go (no e) =
+          let last : i ≡ checksumPlace + 1 = omega arith in
+          let new = ap (λ (j : ℕ). getD (set b i v) j 0) (sym last) ∙ now in
+          let high = getD-set-other b i checksumPlace v 0 (omega arith) in
+          let old = ap (λ (j : ℕ). getD b j 0) last in
+          omega (arith, same)
+
+  pub wrongChecksum-set : wrongChecksum b ≡ false → wrongChecksum (set b i v) ≡ true
+  unfolding wrongChecksum
+  wrongChecksum-set right = ap not (ne-eqb _ _ (go (decLt i checksumPlace)))
+    where
+      was : be16At b checksumPlace ≡ checksum (take checksumPlace b)
+      was = eqb-true _ _ (not-false _ right)
+
+      go : Dec (i < checksumPlace) → be16At (set b i v) checksumPlace ≡ checksum (take checksumPlace (set b i v)) → ⊥
+      go (yes h) = bytes-differ h was
+      go (no h) = stored-differs (omega arith) was
+
+module _ (f : List ℕ) (i v : ℕ) where
+  -- the byte's block, and a block before it
+  blockAt-set-same : blockAt (set f i v) (i / blockBytes) ≡ set (blockAt f (i / blockBytes)) (i % blockBytes) v
+  blockAt-set-same =
+      let place : i ≡ blockBytes * (i / blockBytes) + i % blockBytes = omega arith in
+      ap (λ (j : ℕ). blockAt (set f j v) (i / blockBytes)) place
+      ∙ ap (take blockBytes) (drop-set-add (blockBytes * (i / blockBytes)) f (i % blockBytes) v)
+      ∙ take-set-lt blockBytes (drop (blockBytes * (i / blockBytes)) f) (i % blockBytes) v (omega arith)
+
+  blockAt-set-other : (j : ℕ) → blockBytes * suc j ≤ i → blockAt (set f i v) j ≡ blockAt f j
+  blockAt-set-other j h =
+      let place : i ≡ blockBytes * j + (i - blockBytes * j) = omega arith in
+      ap (λ (k : ℕ). blockAt (set f k v) j) place
+      ∙ ap (take blockBytes) (drop-set-add (blockBytes * j) f (i - blockBytes * j) v)
+      ∙ take-set-le blockBytes (drop (blockBytes * j) f) (i - blockBytes * j) v (omega arith)
+
+  -- a number before the byte
+  be16At-set : (at : ℕ) → at + 1 < i → be16At (set f i v) at ≡ be16At f at
+  be16At-set at h =
+      let high = getD-set-other f i at v 0 (omega arith) in
+      let low = getD-set-other f i (at + 1) v 0 (omega arith) in
+      cc
+
+  doorsIn-set : 11 < i → doorsIn (set f i v) ≡ doorsIn f
+  doorsIn-set h = λ k. record { from = be16At-set 8 (omega arith) k; to = be16At-set 10 (omega arith) k }
+
+  header-set : blockBytes ≤ i → wrongHeader (set f i v) ≡ wrongHeader f
+  unfolding wrongHeader
+  header-set h =
+      let block = blockAt-set-other 0 (omega arith) in
+      let total = be16At-set 6 (omega arith) in
+      let doors = doorsIn-set (omega arith) in
+      let size = length-set f i v in
+      cc
+
+  layout-set : (j : ℕ) → blockBytes * suc j ≤ i → wrongLayout (set f i v) j ≡ wrongLayout f j
+  unfolding wrongLayout
+  layout-set j h =
+      let block = blockAt-set-other j h in
+      let total = be16At-set 6 (omega arith) in
+      cc
+
+  records-set : (j : ℕ) → blockBytes * suc j ≤ i → wrongRecordsIn (set f i v) j ≡ wrongRecordsIn f j
+  unfolding wrongRecordsIn lastBefore
+  records-set j h =
+      let block = blockAt-set-other j h in
+      let earlier = blockAt-set-other (j - 1) (omega arith) in
+      let total = be16At-set 6 (omega arith) in
+      let doors = doorsIn-set (omega arith) in
+      cc
+
+  blockCauses-set : (j : ℕ) → blockBytes * suc j ≤ i → blockCauses (set f i v) j ≡ blockCauses f j
+  unfolding blockCauses
+  blockCauses-set zero h = rw (blockAt-set-other 0 h, header-set (omega arith))
+  blockCauses-set (suc j) h = rw (blockAt-set-other (suc j) h, layout-set (suc j) h, records-set (suc j) h)
+
+-- a block of wrong check is refused with 12 before its other causes
+bad-checksum : (f : List ℕ) (i : ℕ) (later : List Cause) → wrongChecksum (blockAt f i) ≡ true → firstFault (blockCauses f i ++ later) ≡ some (BadChecksum i)
+unfolding blockCauses firstFault
+bad-checksum f zero later e = rw e
+bad-checksum f (suc i) later e = rw e
+
+module _ (f : List ℕ) (i v : ℕ) (below : Below byteValues f) (taken : Accepted f) (inside : i < length f) (byte : v < byteValues) (other : v ≢ getD f i 0) where
+  passes : Passes f
+  passes = accepted-iff f .0 taken
+
+  -- the byte's block is in the file
+  block-inside : i / blockBytes < blocksIn f
+  block-inside = omega (arith, wrongBlockCount-iff f .0 (passes .count) .whole)
+
+  -- the byte in its block
+  getD-block : getD (blockAt f (i / blockBytes)) (i % blockBytes) 0 ≡ getD f i 0
+  getD-block =
+      let at = blockBytes * (i / blockBytes) in
+      let place : at + i % blockBytes ≡ i = omega arith in
+      getD-take blockBytes (drop at f) (i % blockBytes) 0 (omega arith) ∙ getD-drop at f (i % blockBytes) 0 ∙ ap (λ (j : ℕ). getD f j 0) place
+
+  checksum-wrong : wrongChecksum (blockAt (set f i v) (i / blockBytes)) ≡ true
+  checksum-wrong =
+      let b = blockAt f (i / blockBytes) in
+      let bytes = bytesAt-below byteValues f (blockBytes * (i / blockBytes)) blockBytes below in
+      let long = length-blockAt f (i / blockBytes) block-inside in
+      let right = passes .checksums (i / blockBytes) block-inside in
+      rw (blockAt-set-same f i v) (wrongChecksum-set b (i % blockBytes) v long bytes (omega arith) byte (λ e. other (e ∙ getD-block)) right)
+
+  count-set : wrongBlockCount (set f i v) ≡ false
+  unfolding wrongBlockCount
+  count-set = rw (length-set f i v) (passes .count)
+
+  earlier-absent : (j : ℕ) → j < i / blockBytes → firstFault (blockCauses (set f i v) j) ≡ none
+  earlier-absent j h = rw (blockCauses-set f i v j (omega arith)) (block-passes f passes j (omega (arith, block-inside)))
+
+  pub one-byte : firstFault (fileCauses (set f i v)) ≡ some (BadChecksum (i / blockBytes))
+  unfolding fileCauses firstFault flatMap countFrom
+  one-byte =
+      let at = i / blockBytes in
+      let causes = blockCauses (set f i v) in
+      let after = blocksIn f - suc at in
+      let whole : blocksIn (set f i v) ≡ at + suc after = omega (arith, length-set f i v, block-inside) in
+      let none-before = firstFault-flatMap causes (countFrom 0 at) (λ j m. let before = countFrom-mem 0 at j m in earlier-absent j (omega arith)) in
+      rw count-set
+      (ap (λ (n : ℕ). firstFault (flatMap causes (countFrom 0 n))) whole
+      ∙ ap (λ (l : List ℕ). firstFault (flatMap causes l)) (countFrom-append 0 at (suc after))
+      ∙ ap firstFault (flatMap-append causes (countFrom 0 at) (countFrom (0 + at) (suc after)))
+      ∙ firstFault-append (flatMap causes (countFrom 0 at)) (flatMap causes (countFrom (0 + at) (suc after))) none-before
+      ∙ ap (λ (k : ℕ). firstFault (flatMap causes (countFrom k (suc after)))) (zero-add at)
+      ∙ bad-checksum (set f i v) at (flatMap causes (countFrom (suc at) after)) checksum-wrong)

@@ -1,0 +1,60 @@
+-- What every step of the plain book keeps, and what it never answers.
+--   bookStep-capacity, after-capacity      C stays
+--   bookStep-sound                         neither fault 1 nor fault 9
+-- Assumes nothing.
+use Prim.Native.Nat.{ℕ}
+use mathlib.Core.Path.{_≡_, refl, _∙_}
+use mathlib.Core.Bool.{true}
+use mathlib.Core.List.{List, [], _∷_}
+use mathlib.Core.Option.{Option, none, some}
+use Rattle.lists.specs.Tests.{every}
+use Rattle.model.specs.declared.Fault.{Fault}
+use Rattle.model.specs.declared.Kind.{Kind}
+use Rattle.model.specs.declared.Kind.the-variants.{Bars, Opens}
+use Rattle.model.specs.declared.Grant.{Grant}
+use Rattle.model.specs.Box.{pointBox}
+use Rattle.model.specs.Answer.{decisionAnswer}
+use Rattle.model.specs.Refusal.{Cause, Step, firstFault, stepBy, refusing}
+use Rattle.model.specs.Decide.{decidingOf, decisionOf, decideAmong}
+use Rattle.model.specs.Call.{Call, grant, revoke, list, decide, count}
+use Rattle.model.specs.Book.{Book, overlapping, bookGrant, bookRevoke, bookList, bookDecide, bookCount, bookStep}
+use Rattle.model.specs.Histories.{after}
+use Rattle.model.proofs.SoundLaws.{soundAnswer, refusing-sound}
+
+refusing-capacity : (cs : List Cause) (b : Book) (lent : List ℕ) (d : Step Book) → d .state .capacity ≡ b .capacity → refusing cs b lent d .state .capacity ≡ b .capacity
+unfolding refusing
+refusing-capacity cs b lent d e = go (firstFault cs)
+  where
+    go : (o : Option Fault) → stepBy o b lent d .state .capacity ≡ b .capacity
+    go none = e
+    go (some f) = refl
+
+pub bookStep-capacity : (b : Book) (c : Call) → bookStep b c .state .capacity ≡ b .capacity
+unfolding bookStep bookGrant bookRevoke bookList bookDecide bookCount
+bookStep-capacity b (grant r) = refusing-capacity _ b [] _ refl
+bookStep-capacity b (revoke n) = refusing-capacity _ b [] _ refl
+bookStep-capacity b (list q lent) = refusing-capacity _ b lent _ refl
+bookStep-capacity b (decide staff door quarter) = refl
+bookStep-capacity b count = refl
+
+pub after-capacity : (b : Book) (cs : List Call) → after bookStep b cs .capacity ≡ b .capacity
+unfolding after
+after-capacity b [] = refl
+after-capacity b (c ∷ cs) = after-capacity (bookStep b c .state) cs ∙ bookStep-capacity b c
+
+decision-sound : (k : Kind) (g : Grant) → soundAnswer (decisionAnswer (decisionOf k g)) ≡ true
+decision-sound Bars g = refl
+decision-sound Opens g = refl
+
+pub decideAmong-sound : (gs : List Grant) → soundAnswer (decisionAnswer (decideAmong gs)) ≡ true
+unfolding decideAmong
+decideAmong-sound [] = refl
+decideAmong-sound (g ∷ gs) = decision-sound (decidingOf g gs .kind) (decidingOf g gs)
+
+pub bookStep-sound : (b : Book) (c : Call) → soundAnswer (bookStep b c .answer) ≡ true
+unfolding bookStep bookGrant bookRevoke bookList bookDecide bookCount every
+bookStep-sound b (grant r) = refusing-sound _ b [] _ refl refl
+bookStep-sound b (revoke n) = refusing-sound _ b [] _ refl refl
+bookStep-sound b (list q lent) = refusing-sound _ b lent _ refl refl
+bookStep-sound b (decide staff door quarter) = decideAmong-sound (overlapping (pointBox staff door quarter) (b .live))
+bookStep-sound b count = refl

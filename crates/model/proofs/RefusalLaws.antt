@@ -1,0 +1,45 @@
+-- Laws of `firstFault` (specs/Refusal) over causes in a row.
+--   causes-absent                  where no cause holds, the first does not, and none of the others
+--   firstFault-append              causes of which none holds may be left out in front
+--   firstFault-flatMap, flatMap-firstFault    none of joined causes holds exactly if none of each part does
+-- Assumes nothing.
+use Prim.Native.Nat.{ℕ}
+use mathlib.Core.Path.{_≡_, refl, ap, _∙_}
+use mathlib.Core.Bool.{Bool, true, false, cond}
+use mathlib.Core.List.{List, [], _∷_, _++_, flatMap, List·Memᴰ, List·Memᴰ·head, List·Memᴰ·tail}
+use mathlib.Core.Option.{none, some}
+use native.Mathlib.Omega.{arith}
+use Rattle.model.specs.Refusal.{Cause, firstFault}
+
+pub causes-absent : (c : Cause) (cs : List Cause) → firstFault (c ∷ cs) ≡ none → (c .present ≡ false) × (firstFault cs ≡ none)
+unfolding firstFault
+causes-absent c cs e = go (c .present) e
+  where
+    go : (b : Bool) → cond b (some (c .fault)) (firstFault cs) ≡ none → (b ≡ false) × (firstFault cs ≡ none)
+    go true e = let z : _≡_ {A = ℕ} 0 1 = cc in absurd (omega arith)
+    go false e = (refl, e)
+
+pub firstFault-append : (cs ds : List Cause) → firstFault cs ≡ none → firstFault (cs ++ ds) ≡ firstFault ds
+unfolding firstFault
+firstFault-append [] ds e = refl
+firstFault-append (c ∷ cs) ds e = let absent = causes-absent c cs e in rw (absent .0) (firstFault-append cs ds (absent .1))
+
+append-absent : (cs ds : List Cause) → firstFault (cs ++ ds) ≡ none → (firstFault cs ≡ none) × (firstFault ds ≡ none)
+unfolding firstFault
+append-absent [] ds e = (refl, e)
+append-absent (c ∷ cs) ds e =
+    let absent = causes-absent c (cs ++ ds) e in
+    let both = append-absent cs ds (absent .1) in
+    (rw (absent .0) (both .0), both .1)
+
+module _ {A : Type 0} (causes : A → List Cause) where
+  pub firstFault-flatMap : (xs : List A) → ((x : A) → List·Memᴰ x xs → firstFault (causes x) ≡ none) → firstFault (flatMap causes xs) ≡ none
+  unfolding firstFault flatMap
+  firstFault-flatMap [] h = refl
+  firstFault-flatMap (x ∷ xs) h =
+      firstFault-append (causes x) (flatMap causes xs) (h x (List·Memᴰ·head refl)) ∙ firstFault-flatMap xs (λ y m. h y (List·Memᴰ·tail m))
+
+  pub flatMap-firstFault : (xs : List A) → firstFault (flatMap causes xs) ≡ none → (x : A) → List·Memᴰ x xs → firstFault (causes x) ≡ none
+  unfolding flatMap
+  flatMap-firstFault (y ∷ ys) e x (List·Memᴰ·head q) = ap (λ (z : A). firstFault (causes z)) q ∙ append-absent (causes y) (flatMap causes ys) e .0
+  flatMap-firstFault (y ∷ ys) e x (List·Memᴰ·tail m) = flatMap-firstFault ys (append-absent (causes y) (flatMap causes ys) e .1) x m
