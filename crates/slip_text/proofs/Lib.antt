@@ -3,3 +3,6 @@ pub mod FieldLaws
 pub mod FieldSteps
 pub mod NumberSteps
 pub mod SlipLaws
+pub mod NumeralLaws
+pub mod PutLaws
+pub mod TextLaws

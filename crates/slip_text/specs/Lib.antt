@@ -7,3 +7,4 @@ pub mod Slip
 pub mod Numeral
 pub mod Text
 pub mod Scan
+pub mod Put

@@ -1,5 +1,6 @@
 // The text of the slip program (document 01, "Marked cases"): a line read as a call, and an answer printed as a line.
 // A line of another form is Bad. Nothing here knows of an index, and nothing is refused.
+pub mod printing;
 pub mod reading;
 
 use model::Box;
