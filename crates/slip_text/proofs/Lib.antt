@@ -6,3 +6,4 @@ pub mod SlipLaws
 pub mod NumeralLaws
 pub mod PutLaws
 pub mod TextLaws
+pub mod MarkedLines
