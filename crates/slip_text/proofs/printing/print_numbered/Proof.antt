@@ -1,0 +1,27 @@
+-- `printing::print_numbered` meets its contract. Assumes nothing.
+use native.Mathlib.Omega.{arith}
+use Rattle.slip_text.proofs.PutLaws.{put-then, put-line}
+use Rattle.slip_text.proofs.NumeralLaws.{numeral-few}
+use borrow.Author.Needs.{needs}
+use Rattle.slip_text.proofs.printing.print_numbered.Statement.{statement}
+use Rattle.slip_text.proofs.printing.print_numbered.Tie as tie
+
+put-text-requires : tie.Need-put-text-requires
+put-text-requires c κs = search needs
+
+put-number-requires : tie.Need-put-number-requires
+put-number-requires c κs = omega (arith, numeral-few 19 (c .before .before .before .before .args .n) (omega arith), c .before .put-text .ensures .ends)
+
+put-byte-requires : tie.Need-put-byte-requires
+put-byte-requires c κs = omega (arith, numeral-few 19 (c .before .before .before .before .before .before .args .n) (omega arith), c .before .before .before .put-text .ensures .ends, c .before .put-number .ensures .ends)
+
+returns : tie.Need-returns
+returns c =
+    let t = c .before .before .before .before .put-text .ensures in
+    let n = c .before .before .put-number .ensures in
+    let e = c .put-byte .ensures in
+    put-line (put-then (put-then t n) e) (omega (arith, numeral-few 19 (c .before .before .before .before .before .before .before .args .n) (omega arith), t .ends, n .ends, e .ends, c .before .before .before .before .before .before .before .pre))
+
+pub print-numbered-spec : {M : Type 1} → statement M
+print-numbered-spec =
+    tie.close (tie.spec put-text-requires put-number-requires put-byte-requires returns)

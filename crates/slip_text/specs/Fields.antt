@@ -1,0 +1,18 @@
+-- The fields of a line (document 01, "Marked cases": one blank between them).
+--   fields bs      the line split at each blank
+--   withFirst b fs    the fields where b stands before the first
+-- A blank at either end, or two together, part an empty field off, which is no number and no letter. Any other byte belongs to a field.
+-- Assumes nothing: these are definitions.
+use Prim.Native.Nat.{ℕ}
+use mathlib.Core.Bool.{cond}
+use mathlib.Core.List.{List, [], _∷_}
+use lib.Dec.{eqb}
+use Rattle.slip_text.specs.Ascii.{blank}
+
+abbrev pub withFirst : ℕ → List (List ℕ) → List (List ℕ)
+withFirst b [] = (b ∷ []) ∷ []
+withFirst b (f ∷ fs) = (b ∷ f) ∷ fs
+
+unfoldable pub fields : List ℕ → List (List ℕ)
+fields [] = [] ∷ []
+fields (b ∷ bs) = cond (eqb b blank) ([] ∷ fields bs) (withFirst b (fields bs))

@@ -1,0 +1,58 @@
+-- What the slip program prints for an answer (document 01, "Marked cases": list: how many, then numbers; opens or barred: the grant's
+-- number; refused: the fault; count: live, free). Each is one line, with its newline.
+--   refusalText f, outcomeText o, listedText a ns, decisionText d, countedText a, badText
+--   lineBytes      as many bytes as the longest has: `list `, a count of up to twenty digits, 2048 times a blank and five digits, the newline
+-- Assumes nothing: these are definitions.
+use Prim.Native.Nat.{ℕ, _+_, _*_}
+use mathlib.Core.List.{List, [], _∷_, _++_}
+use lib.ListN.{take}
+use Rattle.model.specs.Limits.{maxGrants}
+use Rattle.model.specs.Fault.{faultNumber}
+use Rattle.model.specs.declared.Fault.{Fault}
+use Rattle.model.specs.declared.Outcome.{Outcome}
+use Rattle.model.specs.declared.Outcome.the-variants as outcome
+use Rattle.model.specs.declared.Listed.{Listed}
+use Rattle.model.specs.declared.Listed.the-variants as listed
+use Rattle.model.specs.declared.Decision.{Decision}
+use Rattle.model.specs.declared.Decision.the-variants as decision
+use Rattle.model.specs.declared.Counted.{Counted}
+use Rattle.model.specs.declared.Counted.the-variants as counted
+use Rattle.slip_text.specs.Ascii.{ascii, blank, newline}
+use Rattle.slip_text.specs.Numeral.{numeral}
+
+abbrev pub lineBytes : ℕ
+lineBytes = 5 + 20 + maxGrants * 6 + 1
+
+abbrev pub line : List ℕ → List ℕ
+line t = t ++ newline ∷ []
+
+-- each number after a blank
+unfoldable pub eachAfterBlank : List ℕ → List ℕ
+eachAfterBlank [] = []
+eachAfterBlank (n ∷ ns) = blank ∷ numeral n ++ eachAfterBlank ns
+
+abbrev pub refusalText : Fault → List ℕ
+refusalText f = line (ascii "refused " ++ numeral (faultNumber f))
+
+abbrev pub outcomeText : Outcome → List ℕ
+outcomeText outcome.Done = line (ascii "ok")
+outcomeText (outcome.Refused f) = refusalText f
+
+-- the numbers are those from the start of the list that was lent
+abbrev pub listedText : Listed → List ℕ → List ℕ
+listedText (listed.Count n) lent = line (ascii "list " ++ numeral n ++ eachAfterBlank (take n lent))
+listedText (listed.Refused f) lent = refusalText f
+
+abbrev pub decisionText : Decision → List ℕ
+decisionText (decision.Opens g) = line (ascii "opens " ++ numeral (g .number))
+decisionText (decision.Barred g) = line (ascii "barred " ++ numeral (g .number))
+decisionText decision.None = line (ascii "none")
+decisionText (decision.Refused f) = refusalText f
+
+abbrev pub countedText : Counted → List ℕ
+countedText (counted.Cells live free) = line (ascii "count " ++ numeral live ++ blank ∷ numeral free)
+countedText (counted.Refused f) = refusalText f
+
+-- what is printed for a line that is no slip
+abbrev pub badText : List ℕ
+badText = line (ascii "bad")

@@ -1,0 +1,197 @@
+// Prints an answer as a line (document 01, "Marked cases"; specs/Text), its newline with it. Each function answers how many bytes it put.
+ghost use mathlib.Core.Path.{_≡_};
+ghost use mathlib.Core.List.{[], _∷_, _++_};
+ghost use Prim.Native.Nat.{_+_, _*_, _<_, _≤_, min};
+ghost use lib.ListN.{length, take};
+ghost use Rattle.model.specs.Fault.{faultNumber};
+ghost use Rattle.model.specs.Limits.{maxGrants};
+ghost use Rattle.slip_text.specs.Ascii.{blank};
+ghost use Rattle.slip_text.specs.Numeral.{numeral};
+ghost use Rattle.slip_text.specs.Put.{Put};
+ghost use Rattle.slip_text.specs.Text.{lineBytes, line, eachAfterBlank, refusalText, outcomeText, listedText, decisionText, countedText, badText};
+use model::Counted;
+use model::Decision;
+use model::Fault;
+use model::Listed;
+use model::Outcome;
+
+// As many bytes as the longest line has: a list of 2,048 numbers of five digits.
+pub const LINE_BYTES: usize = 12314;
+
+// As many numbers as a list has: document 01's highest C.
+const MOST: usize = 2048;
+
+// Puts a byte at a place of the line, and answers the next place.
+fn put_byte(out: &mut [u8], at: usize, b: u8) -> usize
+    requires { ⌜ at < length (now out) ⌝ }
+    ensures { λ r. ⌜ Put (now (out .entry)) at (b ∷ []) r (now (out .exit)) ⌝ }
+{
+    out[at] = b;
+    at + 1
+}
+
+fn put_text(out: &mut [u8], at: usize, text: &[u8]) -> usize
+    requires { ⌜ at + length (now text) ≤ length (now out) ⌝ }
+    ensures { λ r. ⌜ Put (now (out .entry)) at (now (text .entry)) r (now (out .exit)) ⌝ }
+{
+    let mut i = 0;
+    while i < text.len() {
+        out[at + i] = text[i];
+        i += 1;
+    }
+    at + i
+}
+
+// Puts a number in decimal: all digits but the last, then the last.
+fn put_number(out: &mut [u8], at: usize, n: usize) -> usize
+    requires { ⌜ at + length (numeral n) ≤ length (now out) ⌝ }
+    ensures { λ r. ⌜ Put (now (out .entry)) at (numeral n) r (now (out .exit)) ⌝ }
+{
+    if n < 10 {
+        return put_byte(out, at, b'0' + n as u8);
+    }
+    let next = put_number(out, at, n / 10);
+    put_byte(out, next, b'0' + (n % 10) as u8)
+}
+
+// Document 01's number of a fault.
+fn fault_number(f: Fault) -> usize
+    ensures { λ r. ⌜ (r ≡ faultNumber f) × (r < 100) ⌝ }
+{
+    match f {
+        Fault::BadPool => 1,
+        Fault::Reversed => 2,
+        Fault::ZeroNumber => 3,
+        Fault::UnknownKind => 4,
+        Fault::AlreadyLive => 5,
+        Fault::Full => 6,
+        Fault::NotLive => 7,
+        Fault::ListTooShort { needed: _ } => 8,
+        Fault::BrokenLinks => 9,
+        Fault::BadLength => 10,
+        Fault::BadLayout { block: _ } => 11,
+        Fault::BadChecksum { block: _ } => 12,
+        Fault::BadRecord { block: _ } => 13,
+        Fault::BufferTooShort { needed: _ } => 14,
+    }
+}
+
+// Puts a number after a blank.
+fn put_item(out: &mut [u8], at: usize, n: u16) -> usize
+    requires { ⌜ at + 6 ≤ length (now out) ⌝ }
+    ensures { λ r. ⌜ Put (now (out .entry)) at (blank ∷ numeral n) r (now (out .exit)) × (r ≤ at + 6) ⌝ }
+{
+    let next = put_byte(out, at, b' ');
+    put_number(out, next, n as usize)
+}
+
+// Puts the first numbers of a list, each after a blank.
+fn put_items(out: &mut [u8], at: usize, numbers: &[u16], count: usize) -> usize
+    requires { ⌜ (count ≤ length (now numbers)) × (at + 6 * count ≤ length (now out)) ⌝ }
+    ensures { λ r. ⌜ Put (now (out .entry)) at (eachAfterBlank (take count (now (numbers .entry)))) r (now (out .exit)) × (r ≤ at + 6 * count) ⌝ }
+{
+    let mut next = at;
+    let mut i: usize = 0;
+    while i < count {
+        next = put_item(out, next, numbers[i]);
+        i += 1;
+    }
+    next
+}
+
+fn least(a: usize, b: usize) -> usize
+    ensures { λ r. ⌜ r ≡ min a b ⌝ }
+{
+    if a < b { a } else { b }
+}
+
+// How many numbers of a lent list are printed: as many as were written, within the line and the list.
+fn shown(written: usize, numbers: &[u16]) -> usize
+    ensures { λ r. ⌜ (take r (now (numbers .entry)) ≡ take written (take maxGrants (now (numbers .entry)))) × (r ≤ length (now (numbers .entry))) × (r ≤ maxGrants) ⌝ }
+{
+    least(least(written, MOST), numbers.len())
+}
+
+// A line of a word and a number.
+fn print_numbered(word: &[u8], n: usize, out: &mut [u8; LINE_BYTES]) -> usize
+    requires { ⌜ length (now word) ≤ 8 ⌝ }
+    ensures { λ r. ⌜ (take r (now (out .exit)) ≡ line (now (word .entry) ++ numeral n)) × (r ≤ lineBytes) ⌝ }
+{
+    let at = put_text(out, 0, word);
+    let end = put_number(out, at, n);
+    put_byte(out, end, b'\n')
+}
+
+fn print_refusal(f: Fault, out: &mut [u8; LINE_BYTES]) -> usize
+    ensures { λ r. ⌜ (take r (now (out .exit)) ≡ refusalText f) × (r ≤ lineBytes) ⌝ }
+{
+    print_numbered(b"refused ", fault_number(f), out)
+}
+
+fn print_list(written: usize, numbers: &[u16], out: &mut [u8; LINE_BYTES]) -> usize
+    ensures { λ r. ⌜ (take r (now (out .exit)) ≡ listedText (Listed.Count written) (take maxGrants (now (numbers .entry)))) × (r ≤ lineBytes) ⌝ }
+{
+    let at = put_text(out, 0, b"list ");
+    let count = put_number(out, at, written);
+    let end = put_items(out, count, numbers, shown(written, numbers));
+    put_byte(out, end, b'\n')
+}
+
+fn print_cells(live: usize, free: usize, out: &mut [u8; LINE_BYTES]) -> usize
+    ensures { λ r. ⌜ (take r (now (out .exit)) ≡ countedText (Counted.Cells live free)) × (r ≤ lineBytes) ⌝ }
+{
+    let at = put_text(out, 0, b"count ");
+    let first = put_number(out, at, live);
+    let gap = put_byte(out, first, b' ');
+    let second = put_number(out, gap, free);
+    put_byte(out, second, b'\n')
+}
+
+// What grant or revoke answered.
+pub fn print_outcome(o: Outcome, out: &mut [u8; LINE_BYTES]) -> usize
+    ensures { λ r. ⌜ (take r (now (out .exit)) ≡ outcomeText o) × (r ≤ lineBytes) ⌝ }
+{
+    match o {
+        Outcome::Done => put_text(out, 0, b"ok\n"),
+        Outcome::Refused(f) => print_refusal(f, out),
+    }
+}
+
+// What list answered, with the list that was lent to it, of which the first 2,048 numbers count.
+pub fn print_listed(a: Listed, numbers: &[u16], out: &mut [u8; LINE_BYTES]) -> usize
+    ensures { λ r. ⌜ (take r (now (out .exit)) ≡ listedText a (take maxGrants (now (numbers .entry)))) × (r ≤ lineBytes) ⌝ }
+{
+    match a {
+        Listed::Count(n) => print_list(n, numbers, out),
+        Listed::Refused(f) => print_refusal(f, out),
+    }
+}
+
+// What decide answered.
+pub fn print_decision(d: Decision, out: &mut [u8; LINE_BYTES]) -> usize
+    ensures { λ r. ⌜ (take r (now (out .exit)) ≡ decisionText d) × (r ≤ lineBytes) ⌝ }
+{
+    match d {
+        Decision::Opens(g) => print_numbered(b"opens ", g.number as usize, out),
+        Decision::Barred(g) => print_numbered(b"barred ", g.number as usize, out),
+        Decision::None => put_text(out, 0, b"none\n"),
+        Decision::Refused(f) => print_refusal(f, out),
+    }
+}
+
+// What count answered.
+pub fn print_counted(a: Counted, out: &mut [u8; LINE_BYTES]) -> usize
+    ensures { λ r. ⌜ (take r (now (out .exit)) ≡ countedText a) × (r ≤ lineBytes) ⌝ }
+{
+    match a {
+        Counted::Cells { live, free } => print_cells(live, free, out),
+        Counted::Refused(f) => print_refusal(f, out),
+    }
+}
+
+// What is printed for a line that is no slip.
+pub fn print_bad(out: &mut [u8; LINE_BYTES]) -> usize
+    ensures { λ r. ⌜ (take r (now (out .exit)) ≡ badText) × (r ≤ lineBytes) ⌝ }
+{
+    put_text(out, 0, b"bad\n")
+}
