@@ -3,8 +3,7 @@
 ghost use mathlib.Core.Path.{_≡_};
 ghost use Prim.Native.Nat.{_+_, _%_, _<_, _≤_};
 ghost use lib.ListN.{length, take, drop};
-ghost use Rattle.checksum.specs.Checksum.{modulus, base256};
-ghost use Rattle.checksum.specs.Checksum.{checksum as checksumOf};
+ghost use Rattle.checksum.specs.Checksum.{modulus, base256, checksum};
 
 const MODULUS: u64 = 65521;
 
@@ -30,7 +29,7 @@ fn four_at(bytes: &[u8], at: usize) -> u64
 // The check of the first bytes, as many as whole groups have.
 fn sum_of_groups(bytes: &[u8], end: usize) -> u64
     requires { ⌜ (end ≤ length (now bytes)) × (end % 4 ≡ 0) ⌝ }
-    ensures { λ r. ⌜ r ≡ checksumOf (take end (now (bytes .entry))) ⌝ }
+    ensures { λ r. ⌜ r ≡ checksum (take end (now (bytes .entry))) ⌝ }
 {
     let mut sum: u64 = 1;
     let mut at: usize = 0;
@@ -57,7 +56,7 @@ fn sum_of_rest(bytes: &[u8], start: usize, before: u64) -> u64
 
 // Document 01's check.
 pub fn checksum(bytes: &[u8]) -> u16
-    ensures { λ r. ⌜ r ≡ checksumOf (now (bytes .entry)) ⌝ }
+    ensures { λ r. ⌜ r ≡ checksum (now (bytes .entry)) ⌝ }
 {
     let end = bytes.len() / GROUP * GROUP;
     let sum = sum_of_groups(bytes, end);

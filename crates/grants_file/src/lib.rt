@@ -1,1 +1,4 @@
-// Records, blocks and files of grants (document 01, "The grants file"). What they are stands in specs/. No function yet.
+// Records, blocks and files of grants (document 01, "The grants file"). What they are stands in specs/.
+// Nothing here knows of a pool or makes one.
+pub mod bytes;
+pub mod record;

@@ -3,3 +3,4 @@ pub mod EachLaws
 pub mod TestLaws
 pub mod ElementLaws
 pub mod RangeLaws
+pub mod StoreLaws

@@ -1,0 +1,2 @@
+-- Laws of the grants file, for the crates above.
+pub mod RecordSteps
