@@ -1,2 +1,3 @@
 -- Laws of the grants file, for the crates above.
 pub mod RecordSteps
+pub mod BlockSteps
