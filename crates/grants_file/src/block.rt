@@ -5,7 +5,7 @@ ghost use Prim.Native.Nat.{_<_, _≤_};
 ghost use lib.ListN.{length, take};
 ghost use Rattle.lists.specs.Tests.{sameNumbers};
 ghost use Rattle.grants_file.specs.Record.{wrongRecords};
-ghost use Rattle.grants_file.specs.Block.{blockBytes, recordsPerBlock, magic, recordsOf, wrongChecksum, wrongStart, wrongPadding};
+ghost use Rattle.grants_file.specs.Block.{blockBytes, recordsPerBlock, magic, countOf, recordsOf, wrongChecksum, wrongStart, wrongPadding};
 use crate::bytes::be16_at;
 use crate::record::RECORD_BYTES;
 use crate::record::wrong_record;
@@ -15,7 +15,12 @@ pub const BLOCK_BYTES: usize = 512;
 
 pub const CHECKSUM_PLACE: usize = 510;
 
+const COUNT_PLACE: usize = 6;
+
 pub const RECORDS_PLACE: usize = 8;
+
+// Where the record lies that fills a block.
+pub const LAST_RECORD: usize = 488;
 
 pub const HEADER_END: usize = 12;
 
@@ -25,6 +30,14 @@ pub fn wide(x: u16) -> usize
     ensures { λ r. ⌜ (r ≡ x) × (r < 65536) ⌝ }
 {
     x as usize
+}
+
+// The record count of a block.
+pub fn count_of(block: &[u8]) -> usize
+    requires { ⌜ length (now block) ≡ blockBytes ⌝ }
+    ensures { λ r. ⌜ (r ≡ countOf (now (block .entry))) × (r < 65536) ⌝ }
+{
+    wide(be16_at(block, COUNT_PLACE))
 }
 
 // Fault 12's cause.
