@@ -64,11 +64,11 @@ unfolding wrongAlone
 alone-count f zero h e n = absurd (e refl)
 alone-count f (suc i) h e n = rw (← h, ← n)
 
-pub alone-left : (f : List ℕ) (i : ℕ) → false ≡ wrongStart (blockAt f i) i → (i ≡ 0 → ⊥) → false ≡ wrongCount f i
-    → wrongPadding (blockAt f i) (recordsPlace + recordBytes * countOf (blockAt f i)) ≡ wrongAlone f i
+pub alone-left : (f : List ℕ) (i n : ℕ) → n ≡ countOf (blockAt f i) → false ≡ wrongStart (blockAt f i) i → (i ≡ 0 → ⊥) → false ≡ wrongCount f i
+    → wrongPadding (blockAt f i) (recordsPlace + recordBytes * n) ≡ wrongAlone f i
 unfolding wrongAlone
-alone-left f zero h e n = absurd (e refl)
-alone-left f (suc i) h e n = rw (← h, ← n)
+alone-left f zero n count h e c = absurd (e refl)
+alone-left f (suc i) n count h e c = rw (← h, ← c, count)
 
 module _ (f : List ℕ) (i : ℕ) where
   pub read-length : true ≡ notInFile f i → refusal BadLength ≡ readAnswer f i

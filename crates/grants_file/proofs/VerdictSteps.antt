@@ -8,7 +8,7 @@
 --   file-length, file-wrong, file-done                the verdict
 -- Assumes nothing.
 use Prim.Native.Nat.{ℕ, zero, suc, _+_, _-_, _*_, _%_, _<_, _≤_}
-use mathlib.Core.Path.{_≡_, refl, sym}
+use mathlib.Core.Path.{_≡_, refl, sym, _∙_}
 use mathlib.Core.Bool.{Bool, true, false, cond, _&&_, and-eq-true-iff}
 use mathlib.Core.List.{List, [], _∷_, _++_, flatMap}
 use mathlib.Core.Option.{Option, none, some}
@@ -67,10 +67,10 @@ module _ (f : List ℕ) (i : ℕ) where
     unfolding wrongLayout
     layout-count h = rw (← start, ne-eqb _ _ h)
 
-    pub layout-left : countOf (blockAt f i) ≡ countIn (totalIn f) i
-        → wrongPadding (blockAt f i) (recordsPlace + recordBytes * countOf (blockAt f i)) ≡ wrongLayout f i
+    pub layout-left : (n : ℕ) → n ≡ countOf (blockAt f i) → n ≡ countIn (totalIn f) i
+        → wrongPadding (blockAt f i) (recordsPlace + recordBytes * n) ≡ wrongLayout f i
     unfolding wrongLayout
-    layout-left h = rw (← start, eq-eqb _ _ h)
+    layout-left n count h = rw (← start, eq-eqb _ _ (sym count ∙ h), count)
 
 module _ (f : List ℕ) where
   pub first-checksum : true ≡ wrongChecksum (blockAt f 0) → Wrong (BadChecksum 0) ≡ blockAnswer f 0

@@ -1,10 +1,8 @@
 // A record: a grant in 16 bytes (document 01, "The grants file").
 ghost use mathlib.Core.Path.{_≡_};
-ghost use Prim.Native.Nat.{_+_, _<_, _≤_};
-ghost use mathlib.Core.Bool.{not};
+ghost use Prim.Native.Nat.{_+_, _≤_};
 ghost use lib.ListN.{length};
 ghost use lib.Seq.{sets};
-ghost use Rattle.model.specs.Interval.{Interval};
 ghost use Rattle.model.specs.Kind.{kindOf, kindNumber};
 ghost use Rattle.model.specs.Box.{doorsOf};
 ghost use Rattle.model.specs.Overlap.{overlapOn};

@@ -2,7 +2,6 @@
 // It stops at the first block that is refused.
 ghost use mathlib.Core.Path.{_≡_};
 ghost use Prim.Native.Nat.{_<_, _≤_};
-ghost use lib.ListN.{length};
 ghost use Rattle.model.specs.Answer.{outcomeAnswer};
 ghost use Rattle.grants_file.specs.Block.{recordsPerBlock};
 ghost use Rattle.grants_file.specs.File.{blocksFor, countIn, blocksIn, totalIn};

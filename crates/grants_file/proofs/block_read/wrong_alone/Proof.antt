@@ -44,8 +44,10 @@ wrong-padding-requires-2 c κs = search needs
 
 returns-4 : tie.Need-returns-4
 returns-4 c =
-    let start = rw (c .before .before .before .before .before .before .before .block-at .ensures .0) at (sym (c .before .before .before .before .before .if1 .left) ∙ c .before .before .before .before .before .before .wrong-start .ensures) in
-    rw (c .wrong-padding2 .ensures, c .before .count-of .ensures .0, c .before .before .before .before .before .before .before .block-at .ensures .0) (alone-left _ _ start (c .before .before .before .before .if2 .left) (sym (c .before .before .if3 .left) ∙ c .before .before .before .wrong-count .ensures))
+    let block = c .before .before .before .before .before .before .before .block-at .ensures .0 in
+    let start = rw block at (sym (c .before .before .before .before .before .if1 .left) ∙ c .before .before .before .before .before .before .wrong-start .ensures) in
+    let count = rw block at (c .before .count-of .ensures .0) in
+    rw (c .wrong-padding2 .ensures, block) (alone-left _ _ _ count start (c .before .before .before .before .if2 .left) (sym (c .before .before .if3 .left) ∙ c .before .before .before .wrong-count .ensures))
 
 pub wrong-alone-spec : {M : Type 1} → statement M
 wrong-alone-spec =

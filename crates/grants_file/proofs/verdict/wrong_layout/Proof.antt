@@ -39,9 +39,10 @@ wrong-padding-requires c κs = search needs
 
 returns-3 : tie.Need-returns-3
 returns-3 c =
-    let start = rw (c .before .before .before .before .before .before .before .block-at .ensures .0) at (sym (c .before .before .before .before .before .if1 .left) ∙ c .before .before .before .before .before .before .wrong-start .ensures) in
-    let count = rw (c .before .before .before .before .before .before .before .block-at .ensures .0) at (c .before .before .before .before .count-of .ensures .0) in
-    rw (c .wrong-padding .ensures, count, c .before .before .before .before .before .before .before .block-at .ensures .0) (layout-left _ _ start (sym count ∙ c .before .if2 .left ∙ c .before .before .count-in .ensures .0 ∙ rw (c .before .before .before .total-in .ensures .0)))
+    let block = c .before .before .before .before .before .before .before .block-at .ensures .0 in
+    let start = rw block at (sym (c .before .before .before .before .before .if1 .left) ∙ c .before .before .before .before .before .before .wrong-start .ensures) in
+    let count = rw block at (c .before .before .before .before .count-of .ensures .0) in
+    rw (c .wrong-padding .ensures, block) (layout-left _ _ start _ count (c .before .if2 .left ∙ c .before .before .count-in .ensures .0 ∙ rw (c .before .before .before .total-in .ensures .0)))
 
 pub wrong-layout-spec : {M : Type 1} → statement M
 wrong-layout-spec =
