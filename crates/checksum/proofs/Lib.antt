@@ -1,2 +1,3 @@
 -- Laws of the check, for the crates above.
 pub mod ChecksumLaws
+pub mod SumLaws

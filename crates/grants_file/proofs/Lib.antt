@@ -7,3 +7,8 @@ pub mod FileLaws
 pub mod CauseLaws
 pub mod VerdictLaws
 pub mod OneByteLaws
+pub mod RecordSteps
+pub mod BlockSteps
+pub mod FileSteps
+pub mod BlockReadSteps
+pub mod VerdictSteps

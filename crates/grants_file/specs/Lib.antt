@@ -5,4 +5,5 @@ pub mod Block
 pub mod File
 pub mod Verdict
 pub mod BlockRead
+pub mod Answers
 pub mod FileSets

@@ -11,3 +11,4 @@ pub mod KeyLaws
 pub mod EveryLaws
 pub mod ListLaws
 pub mod OrLaws
+pub mod StoreLaws

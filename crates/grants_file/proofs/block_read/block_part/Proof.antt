@@ -1,0 +1,65 @@
+-- `block_read::block_part` meets its contract. An accepted block is in the file and has at most 31 records. Assumes nothing.
+use mathlib.Core.Path.{_∙_}
+use borrow.Author.Needs.{needs}
+use Rattle.grants_file.proofs.BlockReadSteps.{done-passed, done-count, part-refused, part-header, part-records}
+use Rattle.grants_file.proofs.block_read.block_part.Statement.{statement}
+use Rattle.grants_file.proofs.block_read.block_part.Tie as tie
+
+block-verdict-requires : tie.Need-block-verdict-requires
+block-verdict-requires c κs = search needs
+
+enum-told : tie.Need-enum-told
+enum-told c = search needs
+
+enum-told-2 : tie.Need-enum-told-2
+enum-told-2 c = search needs
+
+sub-result : tie.Need-sub-result
+sub-result c = search needs
+
+part-result-start : tie.Need-part-result-start
+part-result-start c = search needs
+
+part-result-end : tie.Need-part-result-end
+part-result-end c = search needs
+
+returns : tie.Need-returns
+returns c = part-refused _ _ (c .before .enum-told2 .given .0 .0) (rw (c .before .enum-told2 .given .1) at (c .before .before .before .block-verdict .ensures))
+
+sub-result-2 : tie.Need-sub-result-2
+sub-result-2 c = search needs
+
+part-result-start-2 : tie.Need-part-result-start-2
+part-result-start-2 c = search needs
+
+part-result-end-2 : tie.Need-part-result-end-2
+part-result-end-2 c = search needs
+
+returns-2 : tie.Need-returns-2
+returns-2 c = part-header _ _ (rw (c .before .before .enum-told .given .1) at (c .before .before .before .before .block-verdict .ensures)) (c .before .if1 .taken)
+
+records-part-requires : tie.Need-records-part-requires
+records-part-requires c κs =
+    let done = done-passed _ _ (rw (c .before .enum-told .given .1) at (c .before .before .before .block-verdict .ensures)) in
+    (done .inside, done-count _ _ (done .alone) (c .if1 .left))
+
+returns-3 : tie.Need-returns-3
+returns-3 c = c .records-part .ensures ∙ part-records _ _ (rw (c .before .before .enum-told .given .1) at (c .before .before .before .before .block-verdict .ensures)) (c .before .if1 .left)
+
+pub block-part-spec : {M : Type 1} → statement M
+block-part-spec =
+    tie.close
+    (tie.spec
+    block-verdict-requires
+    enum-told
+    enum-told-2
+    sub-result
+    part-result-start
+    part-result-end
+    returns
+    sub-result-2
+    part-result-start-2
+    part-result-end-2
+    returns-2
+    records-part-requires
+    returns-3)

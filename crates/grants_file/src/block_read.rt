@@ -1,0 +1,109 @@
+// Block read (document 01, "The grants file"): one block judged alone, and the part of the file that its records occupy.
+// Two calls: the verdict, and the part, which is empty on a refusal and for block 0.
+ghost use mathlib.Core.Path.{_≡_};
+ghost use Prim.Native.Nat.{_<_, _≤_};
+ghost use Rattle.model.specs.Answer.{outcomeAnswer};
+ghost use Rattle.grants_file.specs.File.{blocksIn, blockAt};
+ghost use Rattle.grants_file.specs.Block.{recordsPerBlock, countOf};
+ghost use Rattle.grants_file.specs.BlockRead.{notInFile, wrongCount, wrongAlone, partOf};
+ghost use Rattle.grants_file.specs.Answers.{readAnswer, recordsPart};
+use crate::block::BLOCK_BYTES;
+use crate::block::HEADER_END;
+use crate::block::RECORDS_PER_BLOCK;
+use crate::block::RECORDS_PLACE;
+use crate::block::count_of;
+use crate::block::wrong_checksum;
+use crate::block::wrong_padding;
+use crate::block::wrong_start;
+use crate::file::block_at;
+use crate::file::blocks_in;
+use crate::file::wrong_block_count;
+use crate::record::RECORD_BYTES;
+use model::Fault;
+use model::Outcome;
+
+// Fault 10's cause.
+fn not_in_file(file: &[u8], block: u64) -> bool
+    ensures { λ r. ⌜ r ≡ notInFile (now (file .entry)) block ⌝ }
+{
+    if wrong_block_count(file) {
+        return true;
+    }
+    blocks_in(file) as u64 <= block
+}
+
+// Not 31 records, or not 1 to 31 in the last block that the file's length holds.
+fn wrong_count(file: &[u8], block: usize) -> bool
+    requires { ⌜ block < blocksIn (now file) ⌝ }
+    ensures { λ r. ⌜ r ≡ wrongCount (now (file .entry)) block ⌝ }
+{
+    let count = count_of(block_at(file, block));
+    if block + 1 != blocks_in(file) {
+        return count != RECORDS_PER_BLOCK;
+    }
+    if count == 0 {
+        return true;
+    }
+    RECORDS_PER_BLOCK < count
+}
+
+// Fault 11's causes that block read tests: mark, number and fill, and in a block of records their count.
+fn wrong_alone(file: &[u8], number: usize) -> bool
+    requires { ⌜ number < blocksIn (now file) ⌝ }
+    ensures { λ r. ⌜ r ≡ wrongAlone (now (file .entry)) number ⌝ }
+{
+    let block = block_at(file, number);
+    if wrong_start(block, number) {
+        return true;
+    }
+    if number == 0 {
+        return wrong_padding(block, HEADER_END);
+    }
+    if wrong_count(file, number) {
+        return true;
+    }
+    let count = count_of(block);
+    wrong_padding(block, RECORDS_PLACE + RECORD_BYTES * count)
+}
+
+// The verdict on a block: 10, 12, 11 or accepted.
+pub fn block_verdict(file: &[u8], block: u64) -> Outcome
+    ensures { λ r. ⌜ outcomeAnswer r ≡ readAnswer (now (file .entry)) block ⌝ }
+{
+    if not_in_file(file, block) {
+        return Outcome::Refused(Fault::BadLength);
+    }
+    let number = block as usize;
+    if wrong_checksum(block_at(file, number)) {
+        return Outcome::Refused(Fault::BadChecksum { block: number });
+    }
+    if wrong_alone(file, number) {
+        return Outcome::Refused(Fault::BadLayout { block: number });
+    }
+    Outcome::Done
+}
+
+// The part of the file that a block's records occupy.
+fn records_part(file: &[u8], number: usize) -> &[u8]
+    requires { ⌜ (number < blocksIn (now file)) × (countOf (blockAt (now file) number) ≤ recordsPerBlock) ⌝ }
+    ensures { λ r. ⌜ now r ≡ recordsPart (now (file .entry)) number ⌝ }
+{
+    let count = count_of(block_at(file, number));
+    let start = BLOCK_BYTES * number + RECORDS_PLACE;
+    let end = start + RECORD_BYTES * count;
+    &file[start..end]
+}
+
+// The records of an accepted block, handed back as the part of the file that they occupy.
+pub fn block_part(file: &[u8], block: u64) -> &[u8]
+    ensures { λ r. ⌜ now r ≡ partOf (now (file .entry)) block ⌝ }
+{
+    let verdict = block_verdict(file, block);
+    let Outcome::Done = verdict else {
+        return &file[0..0];
+    };
+    if block == 0 {
+        return &file[0..0];
+    }
+    records_part(file, block as usize)
+}
