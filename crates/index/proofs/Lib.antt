@@ -2,3 +2,4 @@
 pub mod LinkCauseLaws
 pub mod OrderLaws
 pub mod FindLaws
+pub mod RefusalSteps
