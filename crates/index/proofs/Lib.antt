@@ -3,3 +3,4 @@ pub mod LinkCauseLaws
 pub mod OrderLaws
 pub mod FindLaws
 pub mod RefusalSteps
+pub mod HitsLaws

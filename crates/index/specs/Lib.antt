@@ -7,3 +7,4 @@ pub mod Calls
 pub mod FileCalls
 pub mod Contract
 pub mod NumberSearch
+pub mod Hits

@@ -2,3 +2,4 @@
 // Each takes any pool and any arguments, finds the fault itself, and leaves everything as it was where it refuses.
 // What each answers and leaves is its definition in specs/Calls.
 mod find;
+mod hits;
