@@ -1,5 +1,6 @@
 -- What the memory of a search says to list, decide and count (specs/Hits).
---   hits-broken, hits-found     the search was broken; its hits lie at the start of the list
+--   hits-broken, hits-found             the search was broken; its hits lie at the start of the list
+--   broken-search, found-hits           the same read back from the answer
 -- Assumes nothing.
 use Prim.Native.Nat.{ℕ, _≤_}
 use mathlib.Core.Path.{_≡_, sym, ap, subst, _∙_}
@@ -11,13 +12,14 @@ use Rattle.model.specs.Limits.{maxGrants}
 use Rattle.geometry.specs.Region.{Region}
 use Rattle.pool.specs.Capacity.{capacityOf, poolLength}
 use Rattle.pool.proofs.CapacityLaws.{capacityOf-poolLength}
-use Rattle.adt.specs.Search.{search}
+use Rattle.adt.specs.Search.{broken, search}
 use Rattle.adt.specs.SearchMemory.{foundIn, Stands}
 use Rattle.adt.proofs.EnterSteps.{stands-as}
 use Rattle.adt.proofs.HitLaws.{stands-within}
+use Rattle.index.specs.declared.hits.Hits.{Hits}
 use Rattle.index.specs.declared.hits.Hits.the-variants.{Broken, Found}
 use Rattle.index.specs.Walks.{isBroken, hitsOf}
-use Rattle.index.specs.Hits.{HitsFound}
+use Rattle.index.specs.Hits.{HitsAt, HitsFound}
 
 module _ (w : List ℕ) (c : ℕ) (q : Region) (few : c ≤ maxGrants) (long : length w ≡ poolLength c)
     {r : Bool} {h t : List ℕ} (s : Stands c r h t (search w q)) where
@@ -44,3 +46,12 @@ module _ (w : List ℕ) (c : ℕ) (q : Region) (few : c ≤ maxGrants) (long : l
                   record { some = k .some; few = omega (arith, k .few); long = omega (arith, k .few, long) };
             };
       }
+
+module _ (w : List ℕ) (q : Region) (h : List ℕ) {r : Hits} (f : HitsFound w q h r) where
+  pub broken-search : r ≡ Broken → search w q ≡ broken
+  unfolding HitsFound
+  broken-search e = subst (HitsFound w q h) e f
+
+  pub found-hits : {n : ℕ} → r ≡ Found n → HitsAt w q h n
+  unfolding HitsFound
+  found-hits e = subst (HitsFound w q h) e f

@@ -4,3 +4,5 @@ pub mod OrderLaws
 pub mod FindLaws
 pub mod RefusalSteps
 pub mod HitsLaws
+pub mod LookSteps
+pub mod CountSteps

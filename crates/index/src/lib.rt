@@ -1,5 +1,6 @@
 // The entry points of the grant index: start, grant, revoke, list, decide and count (document 01, "The plain book" and "Faults").
 // Each takes any pool and any arguments, finds the fault itself, and leaves everything as it was where it refuses.
 // What each answers and leaves is its definition in specs/Calls.
+pub mod count;
 mod find;
 mod hits;
