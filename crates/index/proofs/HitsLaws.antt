@@ -1,13 +1,15 @@
 -- What the memory of a search says to list, decide and count (specs/Hits).
 --   hits-broken, hits-found             the search was broken; its hits lie at the start of the list
 --   broken-search, found-hits           the same read back from the answer
+--   cells-part                          the hits fill a part of a list that is long enough
 -- Assumes nothing.
 use Prim.Native.Nat.{ℕ, _≤_}
 use mathlib.Core.Path.{_≡_, sym, ap, subst, _∙_}
 use mathlib.Core.Bool.{Bool, true, false}
 use mathlib.Core.List.{List}
 use native.Mathlib.Omega.{arith}
-use lib.ListN.{length}
+use lib.ListN.{length, take}
+use lib.Seq.{length-take-le}
 use Rattle.model.specs.Limits.{maxGrants}
 use Rattle.geometry.specs.Region.{Region}
 use Rattle.pool.specs.Capacity.{capacityOf, poolLength}
@@ -19,7 +21,7 @@ use Rattle.adt.proofs.HitLaws.{stands-within}
 use Rattle.index.specs.declared.hits.Hits.{Hits}
 use Rattle.index.specs.declared.hits.Hits.the-variants.{Broken, Found}
 use Rattle.index.specs.Walks.{isBroken, hitsOf}
-use Rattle.index.specs.Hits.{HitsAt, HitsFound}
+use Rattle.index.specs.Hits.{CellsAt, HitsAt, HitsFound}
 
 module _ (w : List ℕ) (c : ℕ) (q : Region) (few : c ≤ maxGrants) (long : length w ≡ poolLength c)
     {r : Bool} {h t : List ℕ} (s : Stands c r h t (search w q)) where
@@ -55,3 +57,7 @@ module _ (w : List ℕ) (q : Region) (h : List ℕ) {r : Hits} (f : HitsFound w 
   pub found-hits : {n : ℕ} → r ≡ Found n → HitsAt w q h n
   unfolding HitsFound
   found-hits e = subst (HitsFound w q h) e f
+
+-- the hits fill a part of a list that is long enough
+pub cells-part : {w h : List ℕ} {n : ℕ} → CellsAt w h n → (l : List ℕ) → n ≤ length l → CellsAt w h (length (take n l))
+cells-part {w} {h} {n} cells l room = subst (λ (k : ℕ). CellsAt w h k) (sym (length-take-le n l room)) cells

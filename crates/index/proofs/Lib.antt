@@ -6,3 +6,5 @@ pub mod RefusalSteps
 pub mod HitsLaws
 pub mod LookSteps
 pub mod CountSteps
+pub mod NumberLaws
+pub mod ListSteps

@@ -4,3 +4,4 @@
 pub mod count;
 mod find;
 mod hits;
+pub mod list;
