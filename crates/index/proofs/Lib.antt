@@ -8,3 +8,5 @@ pub mod LookSteps
 pub mod CountSteps
 pub mod NumberLaws
 pub mod ListSteps
+pub mod DecideLaws
+pub mod DecideSteps

@@ -25,11 +25,11 @@ use Rattle.adt.specs.Search.{Search, search}
 use Rattle.index.specs.declared.hits.Hits.{Hits}
 use Rattle.index.specs.declared.hits.Hits.the-variants.{Broken, Found}
 use Rattle.index.specs.Walks.{boxSearch, hitsOf, isBroken}
-use Rattle.index.specs.Hits.{numbersAt, HitsFound}
+use Rattle.index.specs.Hits.{numbersAt, HitsAt, HitsFound}
 use Rattle.index.specs.Order.{listOrder}
 use Rattle.index.specs.Calls.{listCall}
 use Rattle.index.specs.Contract.{Lends}
-use Rattle.index.proofs.HitsLaws.{broken-search, found-hits}
+use Rattle.index.proofs.HitsLaws.{broken-search, found-hits, length-hits}
 use Rattle.index.proofs.NumberLaws.{length-numbersAt}
 use Rattle.index.proofs.RefusalSteps.{refusedBy, first-holds, first-fails, none-left, lends-as, pool-refused, pool-taken}
 
@@ -88,29 +88,24 @@ module _ (w : List ℕ) (q : Box) (lent : List ℕ) where
 
       module _ (forward : reversed ≡ false) {range : Region} (a : range ≡ rangeOfBox q) (h : List ℕ) {r : Hits} (f : HitsFound w range h r) where
         pub list-broken : r ≡ Broken → Lends (refusal BrokenLinks) lent (listCall w q lent)
-        list-broken b = lends-as (broken-step right (sym v ∙ forward) (ap isBroken (ap (search w) (sym a) ∙ broken-search w range h f b)))
+        list-broken b = lends-as (broken-step right (sym v ∙ forward) (ap isBroken (broken-search w a h f b)))
 
         module _ {found : ℕ} (b : r ≡ Found found) where
-          unmet : isBroken s ≡ false
-          unmet = ap (λ (g : Region). isBroken (search w g)) (sym a) ∙ found-hits w range h f b .unbroken
-
-          hits : hitsOf s ≡ take found h
-          hits = ap (λ (g : Region). hitsOf (search w g)) (sym a) ∙ found-hits w range h f b .found
+          at : HitsAt w (rangeOfBox q) h found
+          at = found-hits w a h f b
 
           long : length (hitsOf s) ≡ found
-          long =
-              let at = found-hits w range h f b .cells in
-              ap length hits ∙ length-take-le found h (omega (arith, at .room, at .few))
+          long = length-hits w (rangeOfBox q) h at
 
           pub list-short : length lent < found → Lends (refusal (ListTooShort found)) lent (listCall w q lent)
-          list-short short = rw (← long) (lends-as (short-step right (sym v ∙ forward) unmet (omega (arith, long))))
+          list-short short = rw (← long) (lends-as (short-step right (sym v ∙ forward) (at .unbroken) (omega (arith, long))))
 
           pub list-done : found ≤ length lent → {part : List ℕ} → part ≡ sortBy (λ n. n) (numbersAt w (take (length (take found lent)) h))
               → Lends (accepted (found ∷ [])) (part ++ drop found lent) (listCall w q lent)
           list-done room {part} sorted =
               let size : length (take found lent) ≡ found = length-take-le found lent room in
-              let numbers : part ≡ sortBy (λ n. n) (numbersAt w (hitsOf s)) = sorted ∙ rw (size, hits) in
-              let done = lends-as (done-step right (sym v ∙ forward) unmet (omega (arith, long))) in
+              let numbers : part ≡ sortBy (λ n. n) (numbersAt w (hitsOf s)) = sorted ∙ rw (size, at .found) in
+              let done = lends-as (done-step right (sym v ∙ forward) (at .unbroken) (omega (arith, long))) in
               let count : length part ≡ found = ap length numbers ∙ length-sortBy _ _ ∙ length-numbersAt w (hitsOf s) ∙ long in
               record {
                 answered = ap (λ (k : ℕ). accepted (k ∷ [])) (sym long) ∙ done .answered;

@@ -2,6 +2,7 @@
 // Each takes any pool and any arguments, finds the fault itself, and leaves everything as it was where it refuses.
 // What each answers and leaves is its definition in specs/Calls.
 pub mod count;
+pub mod decide;
 mod find;
 mod hits;
 pub mod list;

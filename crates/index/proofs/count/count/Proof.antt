@@ -28,18 +28,27 @@ enum-told c = search needs
 
 returns-2 : tie.Need-returns-2
 returns-2 c =
-    let at = c .before .before .before in
-    count-broken (at .before .before .before .before .before .before .args .pool .now) (at .before .before .before .before .capacity .ensures) (at .before .before .before .if1 .left) (at .before .before .root-region .ensures) _ (c .before .before .find-hits .ensures) (c .enum-told .given .1)
+    let searched = c .before .before in
+    let ranged = searched .before .before .before in
+    let tested = ranged .before in
+    let start = tested .before .before .before in
+    count-broken (start .args .pool .now) (tested .before .capacity .ensures) (tested .if1 .left) (ranged .root-region .ensures) _ (searched .find-hits .ensures) (c .enum-told .given .1)
 
 sub-t13 : tie.Need-sub-t13
 sub-t13 c =
-    let at = c .before .before .before .before in
-    count-few (at .before .before .before .before .before .before .args .pool .now) (at .before .before .before .before .capacity .ensures) (at .before .before .before .if1 .left) (at .before .before .root-region .ensures) _ (c .before .before .before .find-hits .ensures) (c .before .live .given .1)
+    let searched = c .before .before .before in
+    let ranged = searched .before .before .before in
+    let tested = ranged .before in
+    let start = tested .before .before .before in
+    count-few (start .args .pool .now) (tested .before .capacity .ensures) (tested .if1 .left) (ranged .root-region .ensures) _ (searched .find-hits .ensures) (c .before .live .given .1)
 
 returns-3 : tie.Need-returns-3
 returns-3 c =
-    let at = c .before .before .before .before in
-    count-done (at .before .before .before .before .before .before .args .pool .now) (at .before .before .before .before .capacity .ensures) (at .before .before .before .if1 .left) (at .before .before .root-region .ensures) _ (c .before .before .before .find-hits .ensures) (c .before .live .given .1)
+    let searched = c .before .before .before in
+    let ranged = searched .before .before .before in
+    let tested = ranged .before in
+    let start = tested .before .before .before in
+    count-done (start .args .pool .now) (tested .before .capacity .ensures) (tested .if1 .left) (ranged .root-region .ensures) _ (searched .find-hits .ensures) (c .before .live .given .1)
 
 pub count-spec : {M : Type 1} → statement M
 count-spec =

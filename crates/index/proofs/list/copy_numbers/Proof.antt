@@ -4,6 +4,7 @@ use mathlib.Core.Path.{_≡_, refl}
 use native.Mathlib.Omega.{arith}
 use lib.ListN.{length, take, length-set}
 use Rattle.index.specs.Hits.{numbersAt}
+use Rattle.index.proofs.HitsLaws.{cell-hit}
 use Rattle.index.proofs.NumberLaws.{numbers-more, numbers-all}
 use borrow.Author.Needs.{needs}
 use Rattle.index.proofs.list.copy_numbers.Statement.{statement}
@@ -28,11 +29,7 @@ wide-requires : tie.Need-wide-requires Inv-loop μ-loop
 wide-requires c κs = search needs
 
 field-requires : tie.Need-field-requires Inv-loop μ-loop
-field-requires c κs =
-    let at = c .before .before .before .before .before .before in
-    let k = at .pre .cell (c .before .before .before .loop .i) (omega arith) in
-    let e = c .wide .ensures .0 in
-    (omega (arith, e, k .some), omega (arith, e, k .few), omega (arith, e, k .long))
+field-requires c κs = cell-hit (c .before .before .before .before .before .before .pre) (omega arith) (c .wide .ensures .0)
 
 mul-list : tie.Need-mul-list Inv-loop μ-loop
 mul-list c = search needs

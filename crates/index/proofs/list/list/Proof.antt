@@ -13,25 +13,25 @@ capacity-requires c κs = search needs
 
 returns : tie.Need-returns
 returns c =
-    let at = c .before .before .before .before in
-    list-bad (at .args .pool .now) (at .args .bounds) (at .args .list .now) (c .before .capacity .ensures) (c .if1 .taken)
+    let start = c .before .before .before .before in
+    list-bad (start .args .pool .now) (start .args .bounds) (start .args .list .now) (c .before .capacity .ensures) (c .if1 .taken)
 
 is-reversed-requires : tie.Need-is-reversed-requires
 is-reversed-requires c κs = search needs
 
 returns-2 : tie.Need-returns-2
 returns-2 c =
-    let re = c .before in
-    let at = re .before .before .before .before .before in
-    list-reversed (at .args .pool .now) (at .args .bounds) (at .args .list .now) (re .before .before .capacity .ensures) (re .before .if1 .left) (re .is-reversed .ensures) (c .if2 .taken)
+    let tested = c .before in
+    let start = tested .before .before .before .before .before in
+    list-reversed (start .args .pool .now) (start .args .bounds) (start .args .list .now) (tested .before .before .capacity .ensures) (tested .before .if1 .left) (tested .is-reversed .ensures) (c .if2 .taken)
 
 range-of-box-requires : tie.Need-range-of-box-requires
 range-of-box-requires c κs = search needs
 
 find-hits-requires : tie.Need-find-hits-requires
 find-hits-requires c κs =
-    let re = c .before .before .before .before in
-    let t = pool-taken _ (re .before .before .capacity .ensures) (re .before .if1 .left) in
+    let tested = c .before .before .before .before in
+    let t = pool-taken _ (tested .before .before .capacity .ensures) (tested .before .if1 .left) in
     (t .few, t .long, refl)
 
 enum-known-found : tie.Need-enum-known-found
@@ -42,19 +42,19 @@ enum-told c = search needs
 
 returns-3 : tie.Need-returns-3
 returns-3 c =
-    let fh = c .before .before in
-    let rb = fh .before .before .before in
-    let re = rb .before .before in
-    let at = re .before .before .before .before .before in
-    list-broken (at .args .pool .now) (at .args .bounds) (at .args .list .now) (re .before .before .capacity .ensures) (re .before .if1 .left) (re .is-reversed .ensures) (rb .before .if2 .left) (rb .range-of-box .ensures) _ (fh .find-hits .ensures) (c .enum-told .given .1)
+    let searched = c .before .before in
+    let ranged = searched .before .before .before in
+    let tested = ranged .before .before in
+    let start = tested .before .before .before .before .before in
+    list-broken (start .args .pool .now) (start .args .bounds) (start .args .list .now) (tested .before .before .capacity .ensures) (tested .before .if1 .left) (tested .is-reversed .ensures) (ranged .before .if2 .left) (ranged .range-of-box .ensures) _ (searched .find-hits .ensures) (c .enum-told .given .1)
 
 returns-4 : tie.Need-returns-4
 returns-4 c =
-    let fh = c .before .before .before .before in
-    let rb = fh .before .before .before in
-    let re = rb .before .before in
-    let at = re .before .before .before .before .before in
-    list-short (at .args .pool .now) (at .args .bounds) (at .args .list .now) (re .before .before .capacity .ensures) (re .before .if1 .left) (re .is-reversed .ensures) (rb .before .if2 .left) (rb .range-of-box .ensures) _ (fh .find-hits .ensures) (c .before .before .found .given .1) (c .if3 .taken)
+    let searched = c .before .before .before .before in
+    let ranged = searched .before .before .before in
+    let tested = ranged .before .before in
+    let start = tested .before .before .before .before .before in
+    list-short (start .args .pool .now) (start .args .bounds) (start .args .list .now) (tested .before .before .capacity .ensures) (tested .before .if1 .left) (tested .is-reversed .ensures) (ranged .before .if2 .left) (ranged .range-of-box .ensures) _ (searched .find-hits .ensures) (c .before .before .found .given .1) (c .if3 .taken)
 
 slice-relend-prefix-write-numbers : tie.Need-slice-relend-prefix-write-numbers
 slice-relend-prefix-write-numbers c = search needs
@@ -64,8 +64,8 @@ slice-aggregate-write-numbers c = sym (length-take-le _ _ (c .before .before .if
 
 write-numbers-requires : tie.Need-write-numbers-requires
 write-numbers-requires c κs =
-    let known = c .before .before .before in
-    let cells = found-hits _ _ _ (known .before .before .before .find-hits .ensures) (known .before .found .given .1) .cells in
+    let found = c .before .before .before .before in
+    let cells = found-hits _ refl _ (found .before .before .find-hits .ensures) (found .found .given .1) .cells in
     cells-part cells _ (c .before .before .if3 .left)
 
 same-length : tie.Need-same-length
@@ -73,12 +73,12 @@ same-length c = search needs
 
 returns-5 : tie.Need-returns-5
 returns-5 c =
-    let el = c .before .before .before .before .before in
-    let fh = el .before .before .before .before in
-    let rb = fh .before .before .before in
-    let re = rb .before .before in
-    let at = re .before .before .before .before .before in
-    list-done (at .args .pool .now) (at .args .bounds) (at .args .list .now) (re .before .before .capacity .ensures) (re .before .if1 .left) (re .is-reversed .ensures) (rb .before .if2 .left) (rb .range-of-box .ensures) _ (fh .find-hits .ensures) (el .before .before .found .given .1) (el .if3 .left) (c .before .before .write-numbers .ensures)
+    let room = c .before .before .before .before .before in
+    let searched = room .before .before .before .before in
+    let ranged = searched .before .before .before in
+    let tested = ranged .before .before in
+    let start = tested .before .before .before .before .before in
+    list-done (start .args .pool .now) (start .args .bounds) (start .args .list .now) (tested .before .before .capacity .ensures) (tested .before .if1 .left) (tested .is-reversed .ensures) (ranged .before .if2 .left) (ranged .range-of-box .ensures) _ (searched .find-hits .ensures) (room .before .before .found .given .1) (room .if3 .left) (c .before .before .write-numbers .ensures)
 
 pub list-spec : {M : Type 1} → statement M
 list-spec =
