@@ -8,3 +8,4 @@ pub mod FileCalls
 pub mod Contract
 pub mod NumberSearch
 pub mod Plans
+pub mod Hits

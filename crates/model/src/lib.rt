@@ -2,6 +2,7 @@
 // specs/ says what they mean: Fault and Answer give document 01's number and values of each case.
 
 pub mod bounds;
+pub mod decide;
 
 // Document 01's kind of a grant: 0 bars, 1 opens.
 pub enum Kind {

@@ -1,0 +1,28 @@
+// count: the live grants, and C less live (document 01, "The plain book"). Refuses by 1, then 9.
+ghost use mathlib.Core.Path.{_≡_};
+ghost use Rattle.model.specs.Answer.{countedAnswer};
+ghost use Rattle.index.specs.Calls.{countCall};
+use crate::hits::Hits;
+use crate::hits::find_hits;
+use geometry::region::root_region;
+use model::Counted;
+use model::Fault;
+use pool::layout::capacity;
+
+pub fn count(pool: &[u16]) -> Counted
+    ensures { λ r. ⌜ countedAnswer r ≡ countCall (now (pool .entry)) .answer ⌝ }
+{
+    let cells = capacity(pool);
+    if cells == 0 {
+        return Counted::Refused(Fault::BadPool);
+    }
+    let everything = root_region();
+    let mut hits = [0u16; 2048];
+    let Hits::Found(live) = find_hits(pool, cells, &everything, &mut hits) else {
+        return Counted::Refused(Fault::BrokenLinks);
+    };
+    Counted::Cells {
+        live: live,
+        free: cells - live,
+    }
+}

@@ -1,0 +1,26 @@
+// The search that list, decide and count make.
+ghost use mathlib.Core.Path.{_≡_};
+ghost use Prim.Native.Nat.{_≤_};
+ghost use lib.ListN.{length};
+ghost use Rattle.model.specs.Limits.{maxGrants};
+ghost use Rattle.pool.specs.Capacity.{poolLength};
+ghost use Rattle.index.specs.Hits.{HitsFound};
+use adt::search::search;
+
+// A search that met a cause of fault 9, or how many hits it left.
+pub enum Hits {
+    Broken,
+    Found(usize),
+}
+
+// Leaves the cells of the hits in `hits`, in the order of the search.
+pub fn find_hits(pool: &[u16], cells: usize, range: &[[u16; 2]; 7], hits: &mut [u16; 2048]) -> Hits
+    requires { ⌜ (cells ≤ maxGrants) × (length (now pool) ≡ poolLength cells) × (length (now hits) ≡ maxGrants) ⌝ }
+    ensures { λ r. ⌜ HitsFound (now (pool .entry)) (now (range .entry)) (now (hits .exit)) r ⌝ }
+{
+    let mut tally = [0usize; 4];
+    if !search(pool, cells, range, hits, &mut tally) {
+        return Hits::Broken;
+    }
+    Hits::Found(tally[1])
+}
