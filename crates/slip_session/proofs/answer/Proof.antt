@@ -1,0 +1,136 @@
+use borrow.Author.Needs.{needs}
+use Rattle.slip_session.proofs.answer.Statement.{statement}
+use Rattle.slip_session.proofs.answer.Tie as tie
+
+print-bad-requires : tie.Need-print-bad-requires
+print-bad-requires c κs = search needs
+
+returns : tie.Need-returns
+returns c = search needs
+
+parse-requires : tie.Need-parse-requires
+parse-requires c κs = search needs
+
+enum-known-slip : tie.Need-enum-known-slip
+enum-known-slip c = search needs
+
+grant-requires : tie.Need-grant-requires
+grant-requires c κs = search needs
+
+print-outcome-requires : tie.Need-print-outcome-requires
+print-outcome-requires c κs = search needs
+
+enum-known-slip-2 : tie.Need-enum-known-slip-2
+enum-known-slip-2 c = search needs
+
+revoke-requires : tie.Need-revoke-requires
+revoke-requires c κs = search needs
+
+print-outcome-requires-2 : tie.Need-print-outcome-requires-2
+print-outcome-requires-2 c κs = search needs
+
+enum-known-slip-3 : tie.Need-enum-known-slip-3
+enum-known-slip-3 c = search needs
+
+list-requires : tie.Need-list-requires
+list-requires c κs = search needs
+
+print-listed-requires : tie.Need-print-listed-requires
+print-listed-requires c κs = search needs
+
+enum-known-slip-4 : tie.Need-enum-known-slip-4
+enum-known-slip-4 c = search needs
+
+decide-requires : tie.Need-decide-requires
+decide-requires c κs = search needs
+
+print-decision-requires : tie.Need-print-decision-requires
+print-decision-requires c κs = search needs
+
+enum-told : tie.Need-enum-told
+enum-told c = search needs
+
+count-requires : tie.Need-count-requires
+count-requires c κs = search needs
+
+print-counted-requires : tie.Need-print-counted-requires
+print-counted-requires c κs = search needs
+
+enum-told-2 : tie.Need-enum-told-2
+enum-told-2 c = search needs
+
+print-bad-requires-2 : tie.Need-print-bad-requires-2
+print-bad-requires-2 c κs = search needs
+
+same-length : tie.Need-same-length
+same-length c = search needs
+
+returns-2 : tie.Need-returns-2
+returns-2 c = search needs
+
+same-length-2 : tie.Need-same-length-2
+same-length-2 c = search needs
+
+returns-3 : tie.Need-returns-3
+returns-3 c = search needs
+
+same-length-3 : tie.Need-same-length-3
+same-length-3 c = search needs
+
+same-length-4 : tie.Need-same-length-4
+same-length-4 c = search needs
+
+returns-4 : tie.Need-returns-4
+returns-4 c = search needs
+
+same-length-5 : tie.Need-same-length-5
+same-length-5 c = search needs
+
+returns-5 : tie.Need-returns-5
+returns-5 c = search needs
+
+same-length-6 : tie.Need-same-length-6
+same-length-6 c = search needs
+
+returns-6 : tie.Need-returns-6
+returns-6 c = search needs
+
+returns-7 : tie.Need-returns-7
+returns-7 c = search needs
+
+pub answer-spec : {M : Type 1} → statement M
+answer-spec =
+    tie.close
+    (tie.spec
+    print-bad-requires
+    returns
+    parse-requires
+    enum-known-slip
+    grant-requires
+    print-outcome-requires
+    enum-known-slip-2
+    revoke-requires
+    print-outcome-requires-2
+    enum-known-slip-3
+    list-requires
+    print-listed-requires
+    enum-known-slip-4
+    decide-requires
+    print-decision-requires
+    enum-told
+    count-requires
+    print-counted-requires
+    enum-told-2
+    print-bad-requires-2
+    same-length
+    returns-2
+    same-length-2
+    returns-3
+    same-length-3
+    same-length-4
+    returns-4
+    same-length-5
+    returns-5
+    same-length-6
+    returns-6
+    returns-7)
