@@ -4,8 +4,8 @@
 --   decides-over, decides-under the next grant outranks the one that decides so far, or not
 --   decides-end                 all have been passed
 -- Assumes nothing.
-use Prim.Native.Nat.{ℕ, zero, suc, _+_, _≤_, _<_}
-use mathlib.Core.Path.{_≡_, refl, sym, ap, _∙_}
+use Prim.Native.Nat.{ℕ, suc, _+_, _<_}
+use mathlib.Core.Path.{_≡_, sym, ap, _∙_}
 use mathlib.Core.Bool.{Bool, true, false, cond}
 use mathlib.Core.List.{List, [], _∷_, map}
 use native.Mathlib.Numerals.{add-one}
@@ -13,7 +13,6 @@ use native.Mathlib.Omega.{arith}
 use lib.ListN.{length, take, drop, getD}
 use lib.Seq.{drop-cons, drop-length, getD-take, length-take-le}
 use Rattle.model.specs.declared.Grant.{Grant}
-use Rattle.model.specs.declared.Decision.{Decision}
 use Rattle.model.specs.declared.Decision.the-variants as decision
 use Rattle.model.specs.Decide.{outranks, decidingOf, decisionOf, decideAmong}
 use Rattle.pool.specs.Cell.{grantAt}

@@ -14,7 +14,7 @@ use lib.ListN.{length, take, getD}
 use lib.Seq.{length-take-le}
 use Rattle.model.specs.Limits.{maxGrants}
 use Rattle.geometry.specs.Region.{Region}
-use Rattle.pool.specs.Capacity.{capacityOf, poolLength}
+use Rattle.pool.specs.Capacity.{poolLength}
 use Rattle.pool.proofs.CapacityLaws.{capacityOf-poolLength}
 use Rattle.adt.specs.Search.{broken, search}
 use Rattle.adt.specs.SearchMemory.{foundIn, Stands}

@@ -2,7 +2,7 @@
 --   look-bad, look-broken, look-done    the pool is refused; the search is broken; no cause holds
 -- Assumes nothing.
 use Prim.Native.Nat.{ℕ}
-use mathlib.Core.Path.{_≡_, sym, ap, _∙_}
+use mathlib.Core.Path.{_≡_, ap, _∙_}
 use mathlib.Core.List.{List, []}
 use Rattle.model.specs.declared.Fault.the-variants.{BadPool, BrokenLinks}
 use Rattle.model.specs.Answer.{Answer, refusal}

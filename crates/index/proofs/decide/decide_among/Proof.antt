@@ -1,7 +1,7 @@
 -- `decide::decide_among` meets its contract. The invariant: the grant that decides so far and those not yet passed decide as all do.
 -- Assumes nothing.
 use Prim.Native.Nat.{_-_, _≤_}
-use mathlib.Core.Path.{_≡_, refl, sym, _∙_}
+use mathlib.Core.Path.{_≡_, sym, _∙_}
 use mathlib.Core.Logic.{⊎-elim}
 use native.Mathlib.Omega.{arith}
 use Rattle.model.specs.Decide.{decidingOf}
