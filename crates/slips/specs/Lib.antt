@@ -1,0 +1,2 @@
+-- What the slip program goes by.
+pub mod Held
