@@ -6,12 +6,10 @@
 --   decisionText d          for what decide answers
 --   countedText a           for what count answers
 --   badText                 for a line that is no slip
---   lineBytes               room for the longest line: `list `, a count of up to twenty digits, 2048 times a blank and five digits, the newline
 -- Assumes nothing: these are definitions.
-use Prim.Native.Nat.{ℕ, _+_, _*_}
+use Prim.Native.Nat.{ℕ}
 use mathlib.Core.List.{List, [], _∷_, _++_}
 use lib.ListN.{take}
-use Rattle.model.specs.Limits.{maxGrants}
 use Rattle.model.specs.Fault.{faultNumber}
 use Rattle.model.specs.declared.Fault.{Fault}
 use Rattle.model.specs.declared.Outcome.{Outcome}
@@ -24,9 +22,6 @@ use Rattle.model.specs.declared.Counted.{Counted}
 use Rattle.model.specs.declared.Counted.the-variants as counted
 use Rattle.slip_text.specs.Ascii.{ascii, blank, newline}
 use Rattle.slip_text.specs.Numeral.{numeral}
-
-abbrev pub lineBytes : ℕ
-lineBytes = 5 + 20 + maxGrants * 6 + 1
 
 -- a line, with the newline that ends it
 abbrev pub line : List ℕ → List ℕ

@@ -49,9 +49,9 @@ returns c =
     let m = c .before .before .before .before .before .before .put-number .ensures in
     let b = c .before .before .before .before .put-byte .ensures in
     let n = c .before .before .put-number2 .ensures in
-    let e = c .put-byte2 .ensures in
-    put-line (put-then (put-then (put-then t m) (put-then b n)) e)
-    (omega (arith, live-few a, free-few a, t .ends, m .ends, b .ends, n .ends, e .ends))
+    let e = c .put-byte2 in
+    put-line (put-then (put-then (put-then t m) (put-then b n)) (e .ensures))
+    (omega (arith, live-few a, free-few a, t .ends, m .ends, b .ends, n .ends, e .ensures .ends, e .kept .0))
 
 pub print-cells-spec : {M : Type 1} → statement M
 print-cells-spec =

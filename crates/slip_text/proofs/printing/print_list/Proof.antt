@@ -46,9 +46,9 @@ returns c =
     let n = c .before .before .before .before .before .put-number .ensures in
     let s = c .before .before .before .shown .ensures in
     let i = c .before .before .put-items .ensures in
-    let e = c .put-byte .ensures in
+    let e = c .put-byte in
     rw (← s .0)
-    (put-line (put-then (put-then (put-then t n) (i .0)) e) (omega (arith, few a, t .ends, n .ends, s .2, i .1, e .ends)))
+    (put-line (put-then (put-then (put-then t n) (i .0)) (e .ensures)) (omega (arith, few a, t .ends, n .ends, s .2, i .1, e .ensures .ends, e .kept .0)))
 
 pub print-list-spec : {M : Type 1} → statement M
 print-list-spec =

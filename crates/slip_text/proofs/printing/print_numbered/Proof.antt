@@ -26,8 +26,8 @@ returns c =
     let a = c .before .before .before .before .before .before .before in
     let t = c .before .before .before .before .put-text .ensures in
     let n = c .before .before .put-number .ensures in
-    let e = c .put-byte .ensures in
-    put-line (put-then (put-then t n) e) (omega (arith, few a, t .ends, n .ends, e .ends, a .pre))
+    let e = c .put-byte in
+    put-line (put-then (put-then t n) (e .ensures)) (omega (arith, few a, t .ends, n .ends, e .ensures .ends, e .kept .0, a .pre))
 
 pub print-numbered-spec : {M : Type 1} → statement M
 print-numbered-spec =
