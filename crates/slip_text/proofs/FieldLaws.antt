@@ -6,14 +6,13 @@
 --   value-after-grows           more digits make no number less
 -- Assumes nothing.
 use Prim.Native.Nat.{ℕ, zero, suc, _+_, _-_, _*_, _<_, _≤_}
-use mathlib.Core.Path.{_≡_, refl, sym, ap, _∙_}
-use mathlib.Core.Bool.{true, false, cond}
+use mathlib.Core.Path.{_≡_, refl, sym, _∙_}
 use mathlib.Core.List.{List, [], _∷_}
 use native.Mathlib.Nat.{le-refl, le-trans, zero-add, suc-add, add-assoc}
 use native.Mathlib.Decide.{ℕ-discrete}
 use native.Mathlib.Omega.{arith}
 use borrow.Author.Tests.{eq-eqb, ne-eqb, le-leb, lt-leb}
-use lib.Dec.{eqb, leb, leb·suc-suc}
+use lib.Dec.{leb·suc-suc}
 use lib.ListN.{length, getD, drop}
 use Rattle.slip_text.specs.Ascii.{blank}
 use Rattle.slip_text.specs.Decimal.{valueAfter, zeroDigit}

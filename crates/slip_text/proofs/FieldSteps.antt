@@ -1,17 +1,18 @@
 -- One step of the reading of a field, as `reading::read_field` makes it.
 --   fieldGoing w bs at v   the field where its digits so far make v and the rest of the line is bs, from the place at on
---   field-..               what the field is at each step
+--   field-end, field-blank, field-starts   what the field is by its first byte
+--   going-..               what it is by its next byte
 -- Assumes nothing.
 use Prim.Native.Nat.{ℕ, suc, _+_, _-_, _*_, _<_, _≤_}
-use mathlib.Core.Path.{_≡_, refl, sym, ap, _∙_}
+use mathlib.Core.Path.{_≡_, refl, _∙_}
 use mathlib.Core.Bool.{Bool, true, false, cond, _&&_, and-false}
-use mathlib.Core.List.{List, [], _∷_}
+use mathlib.Core.List.{List, _∷_}
 use mathlib.Core.Option.{none, some}
 use native.Mathlib.Nat.{add-zero, le-trans}
 use native.Mathlib.Numerals.{add-one}
 use native.Mathlib.Omega.{arith}
-use borrow.Author.Tests.{lt-ltb, le-ltb, le-leb, lt-leb}
-use lib.Dec.{leb, ltb}
+use borrow.Author.Tests.{le-ltb, le-leb, lt-leb}
+use lib.Dec.{ltb}
 use lib.ListN.{length, getD, drop, drop-of-length-le}
 use lib.Seq.{drop-cons}
 use Rattle.lists.specs.Tests.{every}
@@ -26,18 +27,22 @@ use Rattle.slip_text.specs.Fields.{fields}
 use Rattle.slip_text.specs.Scan.{firstField, fieldBy, fieldAt}
 use Rattle.slip_text.proofs.FieldLaws.{first-blank, first-other, value-after-grows}
 
+-- the field whose other bytes are f
 abbrev goingOn : Width → List ℕ → ℕ → ℕ → Field
-goingOn w f at v = cond (every isDigit f && ltb (valueAfter v f) (valuesOf w)) (field.Number (valueAfter v f) (at + length f + 1)) field.Bad
+goingOn w f at v =
+    cond (every isDigit f && ltb (valueAfter v f) (valuesOf w)) (field.Number (valueAfter v f) (at + length f + 1)) field.Bad
 
 unfoldable pub fieldGoing : Width → List ℕ → ℕ → ℕ → Field
 fieldGoing w bs at v = goingOn w (firstField bs) at v
 
 -- the same, as the definition says it
-going-decimal : (w : Width) (f : List ℕ) (at : ℕ) → isNumber f ≡ every isDigit f → goingOn w f at 0 ≡ fieldBy (decimal (valuesOf w) f) (at + length f + 1)
+going-decimal : (w : Width) (f : List ℕ) (at : ℕ) → isNumber f ≡ every isDigit f
+    → goingOn w f at 0 ≡ fieldBy (decimal (valuesOf w) f) (at + length f + 1)
 unfolding decimal
 going-decimal w f at e = rw e (by-test (every isDigit f && ltb (valueAfter 0 f) (valuesOf w)))
   where
-    by-test : (t : Bool) → cond t (field.Number (valueAfter 0 f) (at + length f + 1)) field.Bad ≡ fieldBy (cond t (some (valueAfter 0 f)) none) (at + length f + 1)
+    by-test : (t : Bool) → cond t (field.Number (valueAfter 0 f) (at + length f + 1)) field.Bad
+        ≡ fieldBy (cond t (some (valueAfter 0 f)) none) (at + length f + 1)
     by-test true = refl
     by-test false = refl
 
@@ -87,11 +92,16 @@ module _ (w : Width) (l : List ℕ) (at v : ℕ) where
     pub going-digit : (b ≡ blank → ⊥) → zeroDigit ≤ b → b ≤ nineDigit
         → fieldGoing w (drop (at + 1) l) (at + 1) (v * 10 + (b - zeroDigit)) ≡ fieldGoing w (drop at l) at v
     unfolding fieldGoing every valueAfter
-    going-digit p q r = rw (parted, first-other b (drop (suc at) l) p, le-leb zeroDigit b q, le-leb b nineDigit r, add-one at) (rw (one-later at (length (firstField (drop (suc at) l)))))
+    going-digit p q r =
+        rw (parted, first-other b (drop (suc at) l) p, le-leb zeroDigit b q, le-leb b nineDigit r, add-one at)
+        (rw (one-later at (length (firstField (drop (suc at) l)))))
 
-    pub going-wide : (b ≡ blank → ⊥) → zeroDigit ≤ b → b ≤ nineDigit → 65535 < v * 10 + (b - zeroDigit) → field.Bad ≡ fieldGoing w (drop at l) at v
+    pub going-wide : (b ≡ blank → ⊥) → zeroDigit ≤ b → b ≤ nineDigit → 65535 < v * 10 + (b - zeroDigit)
+        → field.Bad ≡ fieldGoing w (drop at l) at v
     unfolding fieldGoing every valueAfter
-    going-wide p q r s = rw (parted, first-other b (drop (suc at) l) p, le-leb zeroDigit b q, le-leb b nineDigit r, too-wide (firstField (drop (suc at) l)), and-false (every isDigit (firstField (drop (suc at) l))))
+    going-wide p q r s =
+        let f = firstField (drop (suc at) l) in
+        rw (parted, first-other b (drop (suc at) l) p, le-leb zeroDigit b q, le-leb b nineDigit r, too-wide f, and-false (every isDigit f))
       where
         too-wide : (f : List ℕ) → ltb (valueAfter (v * 10 + (b - zeroDigit)) f) (valuesOf w) ≡ false
         too-wide f = le-ltb _ _ (le-trans (values-few w) (le-trans s (value-after-grows _ f)))

@@ -1,10 +1,10 @@
 -- One step of the reading of a line's numbers, as `reading::read_numbers` makes it.
 --   numbersGoing ws bs vs i at   the numbers where the first i stand in vs and the next field starts at the place at
---   going-..                     what they are at each step
+--   numbers-..                   what they are at the start, at each step and at the end
 -- Assumes nothing.
 use Prim.Native.Nat.{ℕ, suc, _+_, _<_, _≤_}
-use mathlib.Core.Path.{_≡_, refl, sym, ap, _∙_}
-use mathlib.Core.Bool.{Bool, true, false, cond}
+use mathlib.Core.Path.{_≡_, refl, ap}
+use mathlib.Core.Bool.{cond}
 use mathlib.Core.List.{List, [], _∷_, _++_, append-assoc, append-nil}
 use mathlib.Core.Option.{Option, none, some}
 use native.Mathlib.Decide.{decLt}
@@ -16,7 +16,6 @@ use lib.Dec.{ltb}
 use lib.ListN.{length, getD, take, drop, set, drop-of-length-le}
 use lib.Seq.{drop-cons, take-suc-set, length-take-le, getD-take}
 use Rattle.slip_text.specs.declared.Width.{Width}
-use Rattle.slip_text.specs.declared.Field.{Field}
 use Rattle.slip_text.specs.declared.Field.the-variants as field
 use Rattle.slip_text.specs.Width.{valuesOf}
 use Rattle.slip_text.specs.Decimal.{decimal}
@@ -88,12 +87,15 @@ module _ (widths : List Width) (bs vs : List ℕ) (count i at : ℕ) (d : Width)
     numbers-more v n free e =
         let f = firstField (drop at bs) in
         let o = number-value (decimal (valuesOf (getD widths i d)) f) (at + length f + 1) v n e in
-        rw (add-one i, take-suc-set vs i v free, with-snoc (take i vs) v (numbers (drop (suc i) (take count widths)) (fieldsFrom bs n)), ← o .1, numbers-parted f refl h, o .0)
+        let rest = numbers (drop (suc i) (take count widths)) (fieldsFrom bs n) in
+        rw (add-one i, take-suc-set vs i v free, with-snoc (take i vs) v rest, ← o .1, numbers-parted f refl h, o .0)
 
 pub numbers-end : (widths : List Width) (bs vs : List ℕ) (count i at : ℕ) → i ≡ count → count ≤ length widths
     → cond (ltb (length bs) at) (some (take count vs)) none ≡ numbersGoing (take count widths) bs vs i at
 unfolding numbersGoing numbers
-numbers-end widths bs vs count i at e room = rw (e, drop-of-length-le (take count widths) {i = count} (le-of-eq (length-take-le count widths room))) (by-place (decLt (length bs) at))
+numbers-end widths bs vs count i at e room =
+    rw (e, drop-of-length-le (take count widths) {i = count} (le-of-eq (length-take-le count widths room)))
+    (by-place (decLt (length bs) at))
   where
     by-place : Dec (length bs < at) → cond (ltb (length bs) at) (some (take count vs)) none ≡ withNumbers (take count vs) (numbers [] (fieldsFrom bs at))
     by-place (yes h) = rw (lt-ltb (length bs) at h, fields-from-past bs at h, append-nil (take count vs))

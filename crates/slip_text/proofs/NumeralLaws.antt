@@ -17,7 +17,7 @@ use native.Mathlib.Decide.{decLt}
 use native.Mathlib.Nat.{pow-suc, div-lt-iff-lt-mul}
 use native.Mathlib.Omega.{arith}
 use borrow.Author.Tests.{lt-ltb, le-ltb}
-use lib.Dec.{ltb, lit<}
+use lib.Dec.{lit<}
 use lib.ListN.{length, getD, length-append}
 use Rattle.lists.specs.Tests.{every}
 use Rattle.lists.proofs.TestLaws.{le-both}
@@ -38,7 +38,8 @@ digits-enough zero j n h i = absurd (omega arith)
 digits-enough (suc k) zero n h i = absurd (omega arith)
 digits-enough (suc k) (suc j) n h i = by-size (decLt n 10) (digits-enough k j (n / 10))
   where
-    by-size : Dec (n < 10) → (n / 10 < k → n / 10 < j → digitsBy k (n / 10) ≡ digitsBy j (n / 10)) → digitsBy (suc k) n ≡ digitsBy (suc j) n
+    by-size : Dec (n < 10) → (n / 10 < k → n / 10 < j → digitsBy k (n / 10) ≡ digitsBy j (n / 10))
+        → digitsBy (suc k) n ≡ digitsBy (suc j) n
     by-size (yes s) ih = digits-digit k n s ∙ sym (digits-digit j n s)
     by-size (no s) ih = rw (digits-more k n (omega arith), digits-more j n (omega arith), ih (omega arith) (omega arith))
 
@@ -72,7 +73,8 @@ module _ (P : ℕ → List ℕ → Type 0) (one : (n : ℕ) → n < 10 → P n (
 
 pub numeral-few : (k n : ℕ) → n < 10 ^ suc k → length (numeral n) ≤ suc k
 numeral-few zero n h = rw (numeral-digit n h) (omega arith)
-numeral-few (suc k) n h = by-size (decLt n 10) (numeral-few k (n / 10) (div-lt-iff-lt-mul (lit< tt) .1 (rw (pow-suc 10 (suc k)) at h)))
+numeral-few (suc k) n h =
+    by-size (decLt n 10) (numeral-few k (n / 10) (div-lt-iff-lt-mul (lit< tt) .1 (rw (pow-suc 10 (suc k)) at h)))
   where
     by-size : Dec (n < 10) → length (numeral (n / 10)) ≤ suc k → length (numeral n) ≤ suc (suc k)
     by-size (yes s) ih = rw (length-numeral-digit n s) (omega arith)
@@ -87,7 +89,8 @@ pub value-numeral : (n : ℕ) → valueAfter 0 (numeral n) ≡ n
 unfolding valueAfter
 value-numeral n = numeral-induct (λ m ds. valueAfter 0 ds ≡ m) (λ m h. omega arith) last n
   where
-    last : (m : ℕ) → 10 ≤ m → valueAfter 0 (numeral (m / 10)) ≡ m / 10 → valueAfter 0 (numeral (m / 10) ++ digit (m % 10) ∷ []) ≡ m
+    last : (m : ℕ) → 10 ≤ m → valueAfter 0 (numeral (m / 10)) ≡ m / 10
+        → valueAfter 0 (numeral (m / 10) ++ digit (m % 10) ∷ []) ≡ m
     last m h e = value-append 0 (numeral (m / 10)) (digit (m % 10) ∷ []) ∙ rw e (omega arith)
 
 digit-digit : (d : ℕ) → d < 10 → isDigit (digit d) ≡ true
@@ -111,7 +114,12 @@ number-snoc (x ∷ bs) b e d = every-snoc (x ∷ bs) b e d
 
 pub number-numeral : (n : ℕ) → isNumber (numeral n) ≡ true
 unfolding isNumber every
-number-numeral n = numeral-induct (λ m ds. isNumber ds ≡ true) (λ m h. rw (digit-digit m h)) (λ m h e. number-snoc (numeral (m / 10)) (digit (m % 10)) e (digit-digit (m % 10) (omega arith))) n
+number-numeral n =
+    numeral-induct
+    (λ m ds. isNumber ds ≡ true)
+    (λ m h. rw (digit-digit m h))
+    (λ m h e. number-snoc (numeral (m / 10)) (digit (m % 10)) e (digit-digit (m % 10) (omega arith)))
+    n
 
 pub decimal-numeral : (values n : ℕ) → n < values → decimal values (numeral n) ≡ some n
 unfolding decimal
@@ -122,4 +130,9 @@ first-kept [] ys h = absurd (omega arith)
 first-kept (x ∷ xs) ys h = h
 
 pub numeral-first : (n : ℕ) → 0 < n → zeroDigit < getD (numeral n) 0 0
-numeral-first n = numeral-induct (λ m ds. 0 < m → zeroDigit < getD ds 0 0) (λ m h p. omega arith) (λ m h e p. first-kept (numeral (m / 10)) (digit (m % 10) ∷ []) (e (omega arith))) n
+numeral-first n =
+    numeral-induct
+    (λ m ds. 0 < m → zeroDigit < getD ds 0 0)
+    (λ m h p. omega arith)
+    (λ m h e p. first-kept (numeral (m / 10)) (digit (m % 10) ∷ []) (e (omega arith)))
+    n

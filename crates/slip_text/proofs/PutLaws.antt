@@ -4,16 +4,14 @@
 --   put-line              a line's text, put from its start on
 --   put-more, put-whole   one byte more of a text, and all of it
 -- Assumes nothing.
-use Prim.Native.Nat.{ℕ, suc, _+_, _<_, _≤_}
-use mathlib.Core.Path.{_≡_, refl, sym, ap, _∙_}
+use Prim.Native.Nat.{ℕ, _+_, _<_, _≤_}
+use mathlib.Core.Path.{_≡_, refl, sym, _∙_}
 use mathlib.Core.List.{List, [], _∷_, _++_, append-assoc, append-nil}
 use native.Mathlib.Nat.{add-zero, add-assoc}
 use native.Mathlib.Numerals.{add-one}
-use native.Mathlib.Omega.{arith}
 use lib.ListN.{length, take, set, getD, length-append}
-use lib.Seq.{take-suc-set, take-suc, take-all}
-use Rattle.slip_text.specs.Put.{Put}
-use Rattle.slip_text.specs.Text.{lineBytes}
+use lib.Seq.{take-suc-set, take-suc, take-all, length-take-le}
+use Rattle.slip_text.specs.Put.{Put, Counts}
 
 pub put-none : (l : List ℕ) (at : ℕ) → Put l at [] at l
 put-none l at = record { ends = sym (add-zero at); holds = sym (append-nil (take at l)) }
@@ -39,5 +37,5 @@ pub put-whole : (l m text : List ℕ) (at next i : ℕ) → length text ≤ i �
 put-whole l m text at next i h p = rw (take-all i text h) at p
 
 -- what was put from the line's start on is the line's text
-pub put-line : {l m t : List ℕ} {r : ℕ} → Put l 0 t r m → r ≤ lineBytes → (take r m ≡ t) × (r ≤ lineBytes)
-put-line p h = (p .holds, h)
+pub put-line : {l m t : List ℕ} {r : ℕ} → Put l 0 t r m → r ≤ length m → (take r m ≡ t) × Counts r m
+put-line {m = m} {r = r} p h = (p .holds, (h, sym (length-take-le r m h)))

@@ -2,12 +2,12 @@
 --   slip-bad, slip-good     the call that the numbers read make, and Bad where they were not read
 --   grant-taken .. decide-taken   a call looks at no number past its own
 --   numbers-fit, read-fit   each number is one of its width
---   letter-..               the call of each letter, and of none
+--   letter-none             no other byte is a letter
 --   line-..                 the call of a line by its first two bytes
 -- Assumes nothing.
-use Prim.Native.Nat.{ℕ, zero, suc, _+_, _<_, _≤_}
+use Prim.Native.Nat.{ℕ, zero, suc, _+_, _<_}
 use Prim.Native.Char.{code}
-use mathlib.Core.Path.{_≡_, refl, sym, ap, _∙_}
+use mathlib.Core.Path.{_≡_, refl, sym, _∙_}
 use mathlib.Core.Bool.{Bool, true, false, cond, _&&_}
 use mathlib.Core.List.{List, [], _∷_}
 use mathlib.Core.Option.{Option, none, some}
@@ -36,7 +36,7 @@ module _ (call : List ℕ → Slip) (n : Numbers) (count : ℕ) (o : Option (Lis
   pub slip-good : n .good ≡ true → call (take count (n .values)) ≡ slipBy call o
   slip-good g = rw (← e, g)
 
--- the first count values are all that is looked at
+-- no value past those that were read is looked at
 box-taken : (n k : ℕ) (vs : List ℕ) → k + 5 < n → boxAt k (take n vs) ≡ boxAt k vs
 box-taken n k vs h =
     rw (
@@ -49,7 +49,8 @@ box-taken n k vs h =
     )
 
 pub grant-taken : (vs : List ℕ) → grantOf (take 9 vs) ≡ grantOf vs
-grant-taken vs = rw (getD-take 9 vs 0 0 (lit< tt), getD-take 9 vs 1 0 (lit< tt), getD-take 9 vs 2 0 (lit< tt)) (rw (box-taken 9 3 vs (lit< tt)))
+grant-taken vs =
+    rw (getD-take 9 vs 0 0 (lit< tt), getD-take 9 vs 1 0 (lit< tt), getD-take 9 vs 2 0 (lit< tt)) (rw (box-taken 9 3 vs (lit< tt)))
 
 pub revoke-taken : (vs : List ℕ) → revokeOf (take 1 vs) ≡ revokeOf vs
 revoke-taken vs = rw (getD-take 1 vs 0 0 (lit< tt))
@@ -98,16 +99,16 @@ numbers-fit (w ∷ ws) (f ∷ fs) vs (suc i) d e h =
     rw (p .is-both) (numbers-fit ws fs (p .values) i d (p .is-rest) (omega arith))
 
 -- the same of the numbers that were read
-pub read-fit : (ws : List Width) (fs : List (List ℕ)) (n : Numbers) (i : ℕ) (d : Width) → numbersIn n (length ws) ≡ numbers ws fs → n .good ≡ true → i < length ws
-    → getD (n .values) i 0 < valuesOf (getD ws i d)
+pub read-fit : (ws : List Width) (fs : List (List ℕ)) (n : Numbers) (i : ℕ) (d : Width)
+    → numbersIn n (length ws) ≡ numbers ws fs → n .good ≡ true → i < length ws → getD (n .values) i 0 < valuesOf (getD ws i d)
 read-fit ws fs n i d e g h =
     rw (getD-take (length ws) (n .values) i 0 h) at (numbers-fit ws fs (take (length ws) (n .values)) i d (sym e ∙ rw g) h)
 
--- the letters of the slip program, in the order of `letterSlip`
-pub letter-none : (b : ℕ) (fs : List (List ℕ)) → (b ≡ code "G" → ⊥) → (b ≡ code "R" → ⊥) → (b ≡ code "L" → ⊥) → (b ≡ code "D" → ⊥) → (b ≡ code "C" → ⊥)
-    → slip.Bad ≡ letterSlip b fs
+pub letter-none : (b : ℕ) (fs : List (List ℕ)) → (b ≡ code "G" → ⊥) → (b ≡ code "R" → ⊥) → (b ≡ code "L" → ⊥)
+    → (b ≡ code "D" → ⊥) → (b ≡ code "C" → ⊥) → slip.Bad ≡ letterSlip b fs
 unfolding letterSlip
-letter-none b fs g r l d c = rw (ne-eqb b (code "G") g, ne-eqb b (code "R") r, ne-eqb b (code "L") l, ne-eqb b (code "D") d, ne-eqb b (code "C") c)
+letter-none b fs g r l d c =
+    rw (ne-eqb b (code "G") g, ne-eqb b (code "R") r, ne-eqb b (code "L") l, ne-eqb b (code "D") d, ne-eqb b (code "C") c)
 
 -- a blank is no letter
 letter-blank : (b : ℕ) (fs : List (List ℕ)) → b ≡ blank → letterSlip b fs ≡ slip.Bad

@@ -1,7 +1,8 @@
 -- The fields of a line (document 01, "Marked cases": one blank between them).
---   fields bs      the line split at each blank
---   withFirst b fs    the fields where b stands before the first
--- A blank at either end, or two together, part an empty field off, which is no number and no letter. Any other byte belongs to a field.
+--   fields bs         the line split at each blank
+--   withFirst b fs    the fields with one byte more at the start of the first
+-- A blank at either end, or two together, part off an empty field, which is no number and no letter; any other byte belongs to a field,
+-- so that a tab or a carriage return makes one that is no number.
 -- Assumes nothing: these are definitions.
 use Prim.Native.Nat.{ℕ}
 use mathlib.Core.Bool.{cond}

@@ -1,8 +1,8 @@
 -- The meaning of a line (document 01, "Marked cases": the slip program).
 --   numbers ws fs         the values of the fields fs, one for each width of ws; none if a field is no number, too wide, missing or too many
---   grantOf .. decideOf   the call of a letter's values
+--   grantOf .. countOf    the call of a letter's values
 --   letterSlip b fs       the call of the letter b with the fields fs after it
---   parseLine bs          the call of a line, without its newline; Bad for a line of any other form
+--   parseLine bs          the call of a line, without its newline; Bad for a line of any other form, an empty one too
 -- Assumes nothing: these are definitions.
 use Prim.Native.Nat.{ℕ, _+_}
 use Prim.Native.Char.{code}

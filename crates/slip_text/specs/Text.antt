@@ -1,12 +1,15 @@
 -- What the slip program prints for an answer (document 01, "Marked cases": list: how many, then numbers; opens or barred: the grant's
 -- number; refused: the fault; count: live, free). Each is one line, with its newline.
---   refusalText f, outcomeText o, listedText a ns, decisionText d, countedText a, badText
---   lineBytes      as many bytes as the longest has: `list `, a count of up to twenty digits, 2048 times a blank and five digits, the newline
+--   refusalText f           what is printed for a refusal
+--   outcomeText o           for what grant and revoke answer
+--   listedText a lent       for what list answers, with the list that was lent to it
+--   decisionText d          for what decide answers
+--   countedText a           for what count answers
+--   badText                 for a line that is no slip
 -- Assumes nothing: these are definitions.
-use Prim.Native.Nat.{ℕ, _+_, _*_}
+use Prim.Native.Nat.{ℕ}
 use mathlib.Core.List.{List, [], _∷_, _++_}
 use lib.ListN.{take}
-use Rattle.model.specs.Limits.{maxGrants}
 use Rattle.model.specs.Fault.{faultNumber}
 use Rattle.model.specs.declared.Fault.{Fault}
 use Rattle.model.specs.declared.Outcome.{Outcome}
@@ -20,9 +23,7 @@ use Rattle.model.specs.declared.Counted.the-variants as counted
 use Rattle.slip_text.specs.Ascii.{ascii, blank, newline}
 use Rattle.slip_text.specs.Numeral.{numeral}
 
-abbrev pub lineBytes : ℕ
-lineBytes = 5 + 20 + maxGrants * 6 + 1
-
+-- a line, with the newline that ends it
 abbrev pub line : List ℕ → List ℕ
 line t = t ++ newline ∷ []
 
@@ -38,7 +39,7 @@ abbrev pub outcomeText : Outcome → List ℕ
 outcomeText outcome.Done = line (ascii "ok")
 outcomeText (outcome.Refused f) = refusalText f
 
--- the numbers are those from the start of the list that was lent
+-- the numbers from the start of the list, as many as were written
 abbrev pub listedText : Listed → List ℕ → List ℕ
 listedText (listed.Count n) lent = line (ascii "list " ++ numeral n ++ eachAfterBlank (take n lent))
 listedText (listed.Refused f) lent = refusalText f
@@ -53,6 +54,5 @@ abbrev pub countedText : Counted → List ℕ
 countedText (counted.Cells live free) = line (ascii "count " ++ numeral live ++ blank ∷ numeral free)
 countedText (counted.Refused f) = refusalText f
 
--- what is printed for a line that is no slip
 abbrev pub badText : List ℕ
 badText = line (ascii "bad")

@@ -7,15 +7,15 @@ ghost use Rattle.model.specs.Fault.{faultNumber};
 ghost use Rattle.model.specs.Limits.{maxGrants};
 ghost use Rattle.slip_text.specs.Ascii.{blank};
 ghost use Rattle.slip_text.specs.Numeral.{numeral};
-ghost use Rattle.slip_text.specs.Put.{Put};
-ghost use Rattle.slip_text.specs.Text.{lineBytes, line, eachAfterBlank, refusalText, outcomeText, listedText, decisionText, countedText, badText};
+ghost use Rattle.slip_text.specs.Put.{Put, Counts};
+ghost use Rattle.slip_text.specs.Text.{line, eachAfterBlank, refusalText, outcomeText, listedText, decisionText, countedText, badText};
 use model::Counted;
 use model::Decision;
 use model::Fault;
 use model::Listed;
 use model::Outcome;
 
-// As many bytes as the longest line has: a list of 2,048 numbers of five digits.
+// Room for the longest line: `list `, a count of up to twenty digits, 2,048 times a blank and five digits, the newline.
 pub const LINE_BYTES: usize = 12314;
 
 // As many numbers as a list has: document 01's highest C.
@@ -115,7 +115,8 @@ fn shown(written: usize, numbers: &[u16]) -> usize
 // A line of a word and a number.
 fn print_numbered(word: &[u8], n: usize, out: &mut [u8; LINE_BYTES]) -> usize
     requires { ⌜ length (now word) ≤ 8 ⌝ }
-    ensures { λ r. ⌜ (take r (now (out .exit)) ≡ line (now (word .entry) ++ numeral n)) × (r ≤ lineBytes) ⌝ }
+    ensures { λ r. ⌜ take r (now (out .exit)) ≡ line (now (word .entry) ++ numeral n) ⌝ }
+    ensures { λ r. ⌜ Counts r (now (out .exit)) ⌝ }
 {
     let at = put_text(out, 0, word);
     let end = put_number(out, at, n);
@@ -123,13 +124,15 @@ fn print_numbered(word: &[u8], n: usize, out: &mut [u8; LINE_BYTES]) -> usize
 }
 
 fn print_refusal(f: Fault, out: &mut [u8; LINE_BYTES]) -> usize
-    ensures { λ r. ⌜ (take r (now (out .exit)) ≡ refusalText f) × (r ≤ lineBytes) ⌝ }
+    ensures { λ r. ⌜ take r (now (out .exit)) ≡ refusalText f ⌝ }
+    ensures { λ r. ⌜ Counts r (now (out .exit)) ⌝ }
 {
     print_numbered(b"refused ", fault_number(f), out)
 }
 
 fn print_list(written: usize, numbers: &[u16], out: &mut [u8; LINE_BYTES]) -> usize
-    ensures { λ r. ⌜ (take r (now (out .exit)) ≡ listedText (Listed.Count written) (take maxGrants (now (numbers .entry)))) × (r ≤ lineBytes) ⌝ }
+    ensures { λ r. ⌜ take r (now (out .exit)) ≡ listedText (Listed.Count written) (take maxGrants (now (numbers .entry))) ⌝ }
+    ensures { λ r. ⌜ Counts r (now (out .exit)) ⌝ }
 {
     let at = put_text(out, 0, b"list ");
     let count = put_number(out, at, written);
@@ -138,7 +141,8 @@ fn print_list(written: usize, numbers: &[u16], out: &mut [u8; LINE_BYTES]) -> us
 }
 
 fn print_cells(live: usize, free: usize, out: &mut [u8; LINE_BYTES]) -> usize
-    ensures { λ r. ⌜ (take r (now (out .exit)) ≡ countedText (Counted.Cells live free)) × (r ≤ lineBytes) ⌝ }
+    ensures { λ r. ⌜ take r (now (out .exit)) ≡ countedText (Counted.Cells live free) ⌝ }
+    ensures { λ r. ⌜ Counts r (now (out .exit)) ⌝ }
 {
     let at = put_text(out, 0, b"count ");
     let first = put_number(out, at, live);
@@ -149,7 +153,8 @@ fn print_cells(live: usize, free: usize, out: &mut [u8; LINE_BYTES]) -> usize
 
 // What grant or revoke answered.
 pub fn print_outcome(o: Outcome, out: &mut [u8; LINE_BYTES]) -> usize
-    ensures { λ r. ⌜ (take r (now (out .exit)) ≡ outcomeText o) × (r ≤ lineBytes) ⌝ }
+    ensures { λ r. ⌜ take r (now (out .exit)) ≡ outcomeText o ⌝ }
+    ensures { λ r. ⌜ Counts r (now (out .exit)) ⌝ }
 {
     match o {
         Outcome::Done => put_text(out, 0, b"ok\n"),
@@ -159,7 +164,8 @@ pub fn print_outcome(o: Outcome, out: &mut [u8; LINE_BYTES]) -> usize
 
 // What list answered, with the list that was lent to it, of which the first 2,048 numbers count.
 pub fn print_listed(a: Listed, numbers: &[u16], out: &mut [u8; LINE_BYTES]) -> usize
-    ensures { λ r. ⌜ (take r (now (out .exit)) ≡ listedText a (take maxGrants (now (numbers .entry)))) × (r ≤ lineBytes) ⌝ }
+    ensures { λ r. ⌜ take r (now (out .exit)) ≡ listedText a (take maxGrants (now (numbers .entry))) ⌝ }
+    ensures { λ r. ⌜ Counts r (now (out .exit)) ⌝ }
 {
     match a {
         Listed::Count(n) => print_list(n, numbers, out),
@@ -169,7 +175,8 @@ pub fn print_listed(a: Listed, numbers: &[u16], out: &mut [u8; LINE_BYTES]) -> u
 
 // What decide answered.
 pub fn print_decision(d: Decision, out: &mut [u8; LINE_BYTES]) -> usize
-    ensures { λ r. ⌜ (take r (now (out .exit)) ≡ decisionText d) × (r ≤ lineBytes) ⌝ }
+    ensures { λ r. ⌜ take r (now (out .exit)) ≡ decisionText d ⌝ }
+    ensures { λ r. ⌜ Counts r (now (out .exit)) ⌝ }
 {
     match d {
         Decision::Opens(g) => print_numbered(b"opens ", g.number as usize, out),
@@ -181,7 +188,8 @@ pub fn print_decision(d: Decision, out: &mut [u8; LINE_BYTES]) -> usize
 
 // What count answered.
 pub fn print_counted(a: Counted, out: &mut [u8; LINE_BYTES]) -> usize
-    ensures { λ r. ⌜ (take r (now (out .exit)) ≡ countedText a) × (r ≤ lineBytes) ⌝ }
+    ensures { λ r. ⌜ take r (now (out .exit)) ≡ countedText a ⌝ }
+    ensures { λ r. ⌜ Counts r (now (out .exit)) ⌝ }
 {
     match a {
         Counted::Cells { live, free } => print_cells(live, free, out),
@@ -191,7 +199,8 @@ pub fn print_counted(a: Counted, out: &mut [u8; LINE_BYTES]) -> usize
 
 // What is printed for a line that is no slip.
 pub fn print_bad(out: &mut [u8; LINE_BYTES]) -> usize
-    ensures { λ r. ⌜ (take r (now (out .exit)) ≡ badText) × (r ≤ lineBytes) ⌝ }
+    ensures { λ r. ⌜ take r (now (out .exit)) ≡ badText ⌝ }
+    ensures { λ r. ⌜ Counts r (now (out .exit)) ⌝ }
 {
     put_text(out, 0, b"bad\n")
 }

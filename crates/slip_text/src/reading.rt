@@ -1,12 +1,14 @@
 // Reads a line as a call (document 01, "Marked cases"; specs/Slip): its letter, then its numbers, a field at a time.
 ghost use mathlib.Core.Path.{_≡_};
 ghost use mathlib.Core.Bool.{cond};
+ghost use mathlib.Core.List.{[]};
 ghost use Prim.Native.Nat.{_+_, _<_, _≤_};
 ghost use lib.Dec.{ltb};
 ghost use lib.ListN.{length, getD, take};
-ghost use mathlib.Core.List.{[]};
 ghost use Rattle.slip_text.specs.Width.{valuesOf};
-ghost use Rattle.slip_text.specs.Slip.{numbers, slipBy, grantOf, revokeOf, listOf, decideOf, countOf, boxAt, grantWidths, revokeWidths, boxWidths, decideWidths, letterSlip, parseLine};
+ghost use Rattle.slip_text.specs.Slip.{grantWidths, revokeWidths, boxWidths, decideWidths, boxAt};
+ghost use Rattle.slip_text.specs.Slip.{grantOf, revokeOf, listOf, decideOf, countOf};
+ghost use Rattle.slip_text.specs.Slip.{numbers, slipBy, letterSlip, parseLine};
 ghost use Rattle.slip_text.specs.Scan.{fieldAt, fieldsFrom, numbersIn};
 use crate::Field;
 use crate::Numbers;

@@ -1,5 +1,5 @@
 -- `printing::put_number` meets its contract: all digits but the last, then the last. The measure is the number. Assumes nothing.
-use mathlib.Core.Path.{_≡_, _∙_}
+use mathlib.Core.Path.{_∙_}
 use native.Mathlib.Omega.{arith}
 use Rattle.slip_text.proofs.PutLaws.{put-then}
 use Rattle.slip_text.proofs.NumeralLaws.{numeral-digit, numeral-more, length-numeral-digit, length-numeral-more}
@@ -46,7 +46,9 @@ put-number-put-byte-requires : (t : ℕ) → put-number-lts.Need-put-byte-requir
   put-number-below t,
   put-number.Post,
 ) (put-number-at t) put-number.Post
-put-number-put-byte-requires t c κs = omega (arith, c .before .before .before .pre .1, length-numeral-digit (c .before .before .before .args .n) (c .before .if1 .taken))
+put-number-put-byte-requires t c κs =
+    let a = c .before .before .before in
+    omega (arith, a .pre .1, length-numeral-digit (a .args .n) (c .before .if1 .taken))
 
 put-number-same-length : (t : ℕ) → put-number-lts.Need-same-length (
   put-byte-reads.Asked,
@@ -71,8 +73,8 @@ put-number-put-number-requires : (t : ℕ) → put-number-lts.Need-put-number-re
   put-number.Post,
 ) (put-number-at t) put-number.Post
 put-number-put-number-requires t c κs =
-    let h = length-numeral-more (c .before .before .before .args .n) (c .before .if1 .left) in
-    (omega arith, omega (arith, c .before .before .before .pre .1, h))
+    let a = c .before .before .before in
+    (omega arith, omega (arith, a .pre .1, length-numeral-more (a .args .n) (c .before .if1 .left)))
 
 put-number-cast-put-byte-2 : (t : ℕ) → put-number-lts.Need-cast-put-byte-2 (
   put-byte-reads.Asked,
@@ -97,8 +99,9 @@ put-number-put-byte-requires-2 : (t : ℕ) → put-number-lts.Need-put-byte-requ
   put-number.Post,
 ) (put-number-at t) put-number.Post
 put-number-put-byte-requires-2 t c κs =
-    let h = length-numeral-more (c .before .before .before .before .before .before .before .args .n) (c .before .before .before .before .before .if1 .left) in
-    omega (arith, c .before .before .before .before .before .before .before .pre .1, h, c .before .before .before .put-number .ensures .ends, c .before .before .before .put-number .kept .0)
+    let a = c .before .before .before .before .before .before .before in
+    let p = c .before .before .before .put-number in
+    omega (arith, a .pre .1, length-numeral-more (a .args .n) (c .before .before .before .before .before .if1 .left), p .ensures .ends, p .kept .0)
 
 put-number-same-length-2 : (t : ℕ) → put-number-lts.Need-same-length-2 (
   put-byte-reads.Asked,
@@ -114,7 +117,10 @@ put-number-returns-2 : (t : ℕ) → put-number-lts.Need-returns-2 (
   put-number-below t,
   put-number.Post,
 ) (put-number-at t) put-number.Post
-put-number-returns-2 t c = rw (numeral-more (c .before .before .before .before .before .before .before .before .before .before .args .n) (c .before .before .before .before .before .before .before .before .if1 .left)) (put-then (c .before .before .before .before .before .before .put-number .ensures) (c .before .before .put-byte2 .ensures))
+put-number-returns-2 t c =
+    let a = c .before .before .before .before .before .before .before .before .before .before in
+    let p = c .before .before .before .before .before .before .put-number .ensures in
+    rw (numeral-more (a .args .n) (c .before .before .before .before .before .before .before .before .if1 .left)) (put-then p (c .before .before .put-byte2 .ensures))
 
 pub +put-number-spec : {M : Type 1} → statement M
 +put-number-spec = close μ-put-number λ t. put-number-lts.spec (

@@ -1,5 +1,8 @@
 -- `printing::print_cells` meets its contract. Assumes nothing.
+use Prim.Native.Nat.{_≤_}
 use native.Mathlib.Omega.{arith}
+use lib.ListN.{length}
+use Rattle.slip_text.specs.Numeral.{numeral}
 use Rattle.slip_text.proofs.PutLaws.{put-then, put-line}
 use Rattle.slip_text.proofs.NumeralLaws.{numeral-few}
 use borrow.Author.Needs.{needs}
@@ -12,21 +15,32 @@ slice-aggregate-put-text c = search needs
 put-text-requires : tie.Need-put-text-requires
 put-text-requires c κs = search needs
 
+live-few : (a : tie.Start) → length (numeral (a .args .live)) ≤ 20
+live-few a = numeral-few 19 (a .args .live) (omega (arith, a .fits))
+
+free-few : (a : tie.Start) → length (numeral (a .args .free)) ≤ 20
+free-few a = numeral-few 19 (a .args .free) (omega (arith, a .fits))
+
 put-number-requires : tie.Need-put-number-requires
-put-number-requires c κs = omega (arith, numeral-few 19 (c .before .before .before .before .args .live) (omega arith), c .before .put-text .ensures .ends)
+put-number-requires c κs = omega (arith, live-few (c .before .before .before .before), c .before .put-text .ensures .ends)
 
 put-byte-requires : tie.Need-put-byte-requires
-put-byte-requires c κs = omega (arith, numeral-few 19 (c .before .before .before .before .before .before .args .live) (omega arith), c .before .before .before .put-text .ensures .ends, c .before .put-number .ensures .ends)
+put-byte-requires c κs = omega (arith, live-few (c .before .before .before .before .before .before), c .before .before .before .put-text .ensures .ends, c .before .put-number .ensures .ends)
 
 put-number-requires-2 : tie.Need-put-number-requires-2
 put-number-requires-2 c κs =
     let a = c .before .before .before .before .before .before .before .before in
-    omega (arith, numeral-few 19 (a .args .live) (omega (arith, a .fits)), numeral-few 19 (a .args .free) (omega (arith, a .fits)), c .before .before .before .before .before .put-text .ensures .ends, c .before .before .before .put-number .ensures .ends, c .before .put-byte .ensures .ends)
+    let t = c .before .before .before .before .before .put-text .ensures in
+    let m = c .before .before .before .put-number .ensures in
+    omega (arith, live-few a, free-few a, t .ends, m .ends, c .before .put-byte .ensures .ends)
 
 put-byte-requires-2 : tie.Need-put-byte-requires-2
 put-byte-requires-2 c κs =
     let a = c .before .before .before .before .before .before .before .before .before .before in
-    omega (arith, numeral-few 19 (a .args .live) (omega (arith, a .fits)), numeral-few 19 (a .args .free) (omega (arith, a .fits)), c .before .before .before .before .before .before .before .put-text .ensures .ends, c .before .before .before .before .before .put-number .ensures .ends, c .before .before .before .put-byte .ensures .ends, c .before .put-number2 .ensures .ends)
+    let t = c .before .before .before .before .before .before .before .put-text .ensures in
+    let m = c .before .before .before .before .before .put-number .ensures in
+    let b = c .before .before .before .put-byte .ensures in
+    omega (arith, live-few a, free-few a, t .ends, m .ends, b .ends, c .before .put-number2 .ensures .ends)
 
 returns : tie.Need-returns
 returns c =
@@ -35,9 +49,9 @@ returns c =
     let m = c .before .before .before .before .before .before .put-number .ensures in
     let b = c .before .before .before .before .put-byte .ensures in
     let n = c .before .before .put-number2 .ensures in
-    let e = c .put-byte2 .ensures in
-    put-line (put-then (put-then (put-then t m) (put-then b n)) e)
-    (omega (arith, numeral-few 19 (a .args .live) (omega (arith, a .fits)), numeral-few 19 (a .args .free) (omega (arith, a .fits)), t .ends, m .ends, b .ends, n .ends, e .ends))
+    let e = c .put-byte2 in
+    put-line (put-then (put-then (put-then t m) (put-then b n)) (e .ensures))
+    (omega (arith, live-few a, free-few a, t .ends, m .ends, b .ends, n .ends, e .ensures .ends, e .kept .0))
 
 pub print-cells-spec : {M : Type 1} → statement M
 print-cells-spec =

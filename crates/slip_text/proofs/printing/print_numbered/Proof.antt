@@ -1,5 +1,8 @@
 -- `printing::print_numbered` meets its contract. Assumes nothing.
+use Prim.Native.Nat.{_≤_}
 use native.Mathlib.Omega.{arith}
+use lib.ListN.{length}
+use Rattle.slip_text.specs.Numeral.{numeral}
 use Rattle.slip_text.proofs.PutLaws.{put-then, put-line}
 use Rattle.slip_text.proofs.NumeralLaws.{numeral-few}
 use borrow.Author.Needs.{needs}
@@ -9,18 +12,22 @@ use Rattle.slip_text.proofs.printing.print_numbered.Tie as tie
 put-text-requires : tie.Need-put-text-requires
 put-text-requires c κs = search needs
 
+few : (a : tie.Start) → length (numeral (a .args .n)) ≤ 20
+few a = numeral-few 19 (a .args .n) (omega (arith, a .fits))
+
 put-number-requires : tie.Need-put-number-requires
-put-number-requires c κs = omega (arith, numeral-few 19 (c .before .before .before .before .args .n) (omega arith), c .before .put-text .ensures .ends)
+put-number-requires c κs = omega (arith, few (c .before .before .before .before), c .before .put-text .ensures .ends)
 
 put-byte-requires : tie.Need-put-byte-requires
-put-byte-requires c κs = omega (arith, numeral-few 19 (c .before .before .before .before .before .before .args .n) (omega arith), c .before .before .before .put-text .ensures .ends, c .before .put-number .ensures .ends)
+put-byte-requires c κs = omega (arith, few (c .before .before .before .before .before .before), c .before .before .before .put-text .ensures .ends, c .before .put-number .ensures .ends)
 
 returns : tie.Need-returns
 returns c =
+    let a = c .before .before .before .before .before .before .before in
     let t = c .before .before .before .before .put-text .ensures in
     let n = c .before .before .put-number .ensures in
-    let e = c .put-byte .ensures in
-    put-line (put-then (put-then t n) e) (omega (arith, numeral-few 19 (c .before .before .before .before .before .before .before .args .n) (omega arith), t .ends, n .ends, e .ends, c .before .before .before .before .before .before .before .pre))
+    let e = c .put-byte in
+    put-line (put-then (put-then t n) (e .ensures)) (omega (arith, few a, t .ends, n .ends, e .ensures .ends, e .kept .0, a .pre))
 
 pub print-numbered-spec : {M : Type 1} → statement M
 print-numbered-spec =

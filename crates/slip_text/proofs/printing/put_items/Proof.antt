@@ -12,7 +12,9 @@ use Rattle.slip_text.proofs.printing.put_items.Statement.{statement}
 use Rattle.slip_text.proofs.printing.put_items.Tie as tie
 
 abbrev Inv-loop : tie.InvT-loop
-Inv-loop out₀ at numbers count next₀ i₀ out next i = (i ≤ count) × (count ≤ length numbers) × (length out ≡ length out₀) × (at + 6 * count ≤ length out₀) × (next ≤ at + 6 * i) × Put out₀ at (eachAfterBlank (take i numbers)) next out
+Inv-loop out₀ at numbers count next₀ i₀ out next i =
+    (i ≤ count) × (count ≤ length numbers) × (length out ≡ length out₀) × (at + 6 * count ≤ length out₀) × (next ≤ at + 6 * i)
+    × Put out₀ at (eachAfterBlank (take i numbers)) next out
 
 abbrev μ-loop : tie.MeasureT-loop
 μ-loop out₀ at numbers count next₀ i₀ out next i = count - i
@@ -40,7 +42,8 @@ loop-again : tie.Need-loop-again Inv-loop μ-loop
 loop-again c =
     let l = c .before .before .before .before .before .before .loop in
     let p = c .before .before .put-item in
-    let h = c .before .before .before .before .before .loop-test .taken in (
+    let h = c .before .before .before .before .before .loop-test .taken in
+    let ns = c .before .before .before .before .before .before .before .before .before .args .numbers .now in (
       search needs,
       l .inv .1,
       p .kept .0 ∙ l .inv .2,

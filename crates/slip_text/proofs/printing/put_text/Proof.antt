@@ -11,7 +11,8 @@ use Rattle.slip_text.proofs.printing.put_text.Statement.{statement}
 use Rattle.slip_text.proofs.printing.put_text.Tie as tie
 
 abbrev Inv-loop : tie.InvT-loop
-Inv-loop out₀ at text i₀ out i = (i ≤ length text) × (length out ≡ length out₀) × (at + length text ≤ length out₀) × Put out₀ at (take i text) (at + i) out
+Inv-loop out₀ at text i₀ out i =
+    (i ≤ length text) × (length out ≡ length out₀) × (at + length text ≤ length out₀) × Put out₀ at (take i text) (at + i) out
 
 abbrev μ-loop : tie.MeasureT-loop
 μ-loop out₀ at text i₀ out i = length text - i

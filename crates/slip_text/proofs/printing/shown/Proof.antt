@@ -1,5 +1,4 @@
 -- `printing::shown` meets its contract. Assumes nothing.
-use mathlib.Core.Path.{_≡_, _∙_}
 use native.Mathlib.Omega.{arith}
 use Rattle.model.specs.Limits.{maxGrants}
 use Rattle.slip_text.proofs.TextLaws.{take-least}

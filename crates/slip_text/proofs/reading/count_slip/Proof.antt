@@ -1,6 +1,5 @@
 -- `reading::count_slip` meets its contract. Assumes nothing.
 use borrow.Author.Tests.{not-true, not-false}
-use mathlib.Core.Path.{_≡_, refl, sym, _∙_}
 use Rattle.slip_text.specs.Slip.{countOf}
 use Rattle.slip_text.proofs.SlipLaws.{slip-bad, slip-good}
 use borrow.Author.Needs.{needs}

@@ -1,6 +1,6 @@
 -- `reading::decide_slip` meets its contract. Assumes nothing.
 use borrow.Author.Tests.{not-true, not-false}
-use mathlib.Core.Path.{_≡_, refl, sym, _∙_}
+use mathlib.Core.Path.{sym, _∙_}
 use Rattle.slip_text.specs.Slip.{decideOf}
 use Rattle.slip_text.proofs.SlipLaws.{slip-bad, slip-good, decide-taken}
 use borrow.Author.Needs.{needs}

@@ -1,6 +1,6 @@
 -- `reading::grant_slip` meets its contract. Assumes nothing.
 use borrow.Author.Tests.{not-true, not-false}
-use mathlib.Core.Path.{_≡_, refl, sym, _∙_}
+use mathlib.Core.Path.{sym, _∙_}
 use Rattle.slip_text.specs.Slip.{grantOf, grantWidths}
 use Rattle.slip_text.proofs.SlipLaws.{slip-bad, slip-good, grant-taken, read-fit}
 use lib.Dec.{lit<}
@@ -22,13 +22,17 @@ array-read-t20 : tie.Need-array-read-t20
 array-read-t20 c = search needs
 
 cast-t21 : tie.Need-cast-t21
-cast-t21 c = let n = c .before .before .before .read-numbers in record { fits = read-fit grantWidths _ (n .result) 1 Byte (n .ensures) (not-false _ (c .before .if1 .left)) (lit< tt) }
+cast-t21 c =
+    let n = c .before .before .before .read-numbers in
+    record { fits = read-fit grantWidths _ (n .result) 1 Byte (n .ensures) (not-false _ (c .before .if1 .left)) (lit< tt) }
 
 array-read-t24 : tie.Need-array-read-t24
 array-read-t24 c = search needs
 
 cast-t25 : tie.Need-cast-t25
-cast-t25 c = let n = c .before .before .before .read-numbers in record { fits = read-fit grantWidths _ (n .result) 2 Byte (n .ensures) (not-false _ (c .before .if1 .left)) (lit< tt) }
+cast-t25 c =
+    let n = c .before .before .before .read-numbers in
+    record { fits = read-fit grantWidths _ (n .result) 2 Byte (n .ensures) (not-false _ (c .before .if1 .left)) (lit< tt) }
 
 box-at-requires : tie.Need-box-at-requires
 box-at-requires c κs = search needs

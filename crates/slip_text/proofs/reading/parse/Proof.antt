@@ -1,5 +1,5 @@
 -- `reading::parse` meets its contract, by the line's first two bytes. Assumes nothing.
-use mathlib.Core.Path.{_≡_, _∙_}
+use mathlib.Core.Path.{_∙_}
 use native.Mathlib.Omega.{arith}
 use Rattle.slip_text.proofs.SlipLaws.{line-empty, line-one, line-long, line-parted}
 use borrow.Author.Needs.{needs}

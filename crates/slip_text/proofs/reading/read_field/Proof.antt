@@ -50,7 +50,8 @@ returns-4 c =
 returns-5 : tie.Need-returns-5 Inv-loop μ-loop
 returns-5 c =
     let l = c .before .before .before .before .before .loop in
-    going-high _ _ _ (l .value) _ (c .before .before .before .before .loop-test .taken) refl (c .before .before .if3 .left) (c .before .if4 .left) (c .if5 .taken) ∙ l .inv .2
+    let i = c .before .before .before .before .loop-test .taken in
+    going-high _ _ _ (l .value) _ i refl (c .before .before .if3 .left) (c .before .if4 .left) (c .if5 .taken) ∙ l .inv .2
 
 mul-more : tie.Need-mul-more Inv-loop μ-loop
 mul-more c = search needs
@@ -67,8 +68,9 @@ add-more c = search needs
 returns-6 : tie.Need-returns-6 Inv-loop μ-loop
 returns-6 c =
     let l = c .before .before .before .before .before .before .before .loop in
+    let i = c .before .before .before .before .before .before .loop-test .taken in
     let w = c .before .wide .ensures .0 in
-    going-wide _ _ _ (l .value) _ (c .before .before .before .before .before .before .loop-test .taken) w (λ e. c .before .before .before .before .if3 .left (sym w ∙ e)) (omega arith) (omega arith) (c .if6 .taken) ∙ l .inv .2
+    going-wide _ _ _ (l .value) _ i w (λ e. c .before .before .before .before .if3 .left (sym w ∙ e)) (omega arith) (omega arith) (c .if6 .taken) ∙ l .inv .2
 
 add-at : tie.Need-add-at Inv-loop μ-loop
 add-at c = search needs
@@ -79,8 +81,9 @@ loop-less c = search needs
 loop-again : tie.Need-loop-again Inv-loop μ-loop
 loop-again c =
     let l = c .before .before .before .before .before .before .before .loop in
+    let i = c .before .before .before .before .before .before .loop-test .taken in
     let w = c .before .wide .ensures .0 in
-    (search needs, search needs, going-digit _ _ _ (l .value) _ (c .before .before .before .before .before .before .loop-test .taken) w (λ e. c .before .before .before .before .if3 .left (sym w ∙ e)) (omega arith) (omega arith) ∙ l .inv .2)
+    (search needs, search needs, going-digit _ _ _ (l .value) _ i w (λ e. c .before .before .before .before .if3 .left (sym w ∙ e)) (omega arith) (omega arith) ∙ l .inv .2)
 
 add-within-2 : tie.Need-add-within-2 Inv-loop μ-loop
 add-within-2 c = search needs

@@ -13,7 +13,9 @@ use Rattle.slip_text.proofs.reading.read_numbers.Statement.{statement}
 use Rattle.slip_text.proofs.reading.read_numbers.Tie as tie
 
 abbrev Inv-loop : tie.InvT-loop
-Inv-loop line count widths values₀ at₀ i₀ values at i = (i ≤ count) × (length values ≡ 9) × (length widths ≡ 9) × (count ≤ 9) × (numbersGoing (take count widths) line values i at ≡ numbers (take count widths) (fieldsFrom line 2))
+Inv-loop line count widths values₀ at₀ i₀ values at i =
+    (i ≤ count) × (length values ≡ 9) × (length widths ≡ 9) × (count ≤ 9)
+    × (numbersGoing (take count widths) line values i at ≡ numbers (take count widths) (fieldsFrom line 2))
 
 abbrev μ-loop : tie.MeasureT-loop
 μ-loop line count widths values₀ at₀ i₀ values at i = count - i
@@ -41,7 +43,9 @@ enum-told c = search needs
 returns-2 : tie.Need-returns-2 Inv-loop μ-loop
 returns-2 c =
     let l = c .before .before .before .before .before .before .loop in
-    numbers-bad _ _ (l .values) _ _ _ Byte (c .before .before .before .before .before .loop-test .taken) (omega arith) (c .before .before .before .before .if1 .left) (sym (c .before .before .read-field .ensures) ∙ c .enum-told .given .1) ∙ l .inv .4
+    let i = c .before .before .before .before .before .loop-test .taken in
+    let e = sym (c .before .before .read-field .ensures) ∙ c .enum-told .given .1 in
+    numbers-bad _ _ (l .values) _ _ _ Byte i (omega arith) (c .before .before .before .before .if1 .left) e ∙ l .inv .4
 
 mul-values : tie.Need-mul-values Inv-loop μ-loop
 mul-values c = search needs
@@ -58,7 +62,14 @@ loop-less c = search needs
 loop-again : tie.Need-loop-again Inv-loop μ-loop
 loop-again c =
     let l = c .before .before .before .before .before .before .before .loop in
-    (search needs, simp length-set (l .inv .1), l .inv .2, l .inv .3, numbers-more _ _ (l .values) _ _ _ Byte (c .before .before .before .before .before .before .loop-test .taken) (omega arith) (c .before .before .before .before .before .if1 .left) _ _ (omega arith) (sym (c .before .before .before .read-field .ensures) ∙ c .before .value .given .1) ∙ l .inv .4)
+    let i = c .before .before .before .before .before .before .loop-test .taken in
+    let e = sym (c .before .before .before .read-field .ensures) ∙ c .before .value .given .1 in (
+      search needs,
+      simp length-set (l .inv .1),
+      l .inv .2,
+      l .inv .3,
+      numbers-more _ _ (l .values) _ _ _ Byte i (omega arith) (c .before .before .before .before .before .if1 .left) _ _ (omega arith) e ∙ l .inv .4,
+    )
 
 returns-3 : tie.Need-returns-3 Inv-loop μ-loop
 returns-3 c =
