@@ -1,5 +1,6 @@
 // One line of the slip program after another, on one pool (document 01, "Marked cases").
 ghost use lib.ListN.{take};
+ghost use Rattle.slip_text.specs.Put.{Put, Counts};
 ghost use Rattle.slip_session.specs.Longest.{slipOf};
 ghost use Rattle.slip_session.specs.Answered.{Answered};
 use index::count::count;
@@ -23,21 +24,29 @@ pub const LONGEST: usize = 4096;
 // Makes the call that the line stands for, and prints its answer: how many bytes of `out` it takes.
 pub fn answer(pool: &mut [u16], lent: &mut [u16], line: &[u8], out: &mut [u8; LINE_BYTES]) -> usize
     ensures { λ r. ⌜ Answered (now (pool .entry)) (now (lent .entry)) (slipOf (now (line .entry))) (now (pool .exit)) (now (lent .exit)) (take r (now (out .exit))) ⌝ }
+    ensures { λ r. ⌜ Counts r (now (out .exit)) ⌝ }
 {
     if LONGEST < line.len() {
         return print_bad(out);
     }
     let slip = parse(line);
     match slip {
-        Slip::Grant { number, rank, kind, bounds } => {
-            print_outcome(grant(pool, number, rank, kind, bounds), out)
-        }
+        Slip::Grant {
+            number,
+            rank,
+            kind,
+            bounds,
+        } => { print_outcome(grant(pool, number, rank, kind, bounds), out) }
         Slip::Revoke(number) => print_outcome(revoke(pool, number), out),
         Slip::List(bounds) => {
             let listed = list(pool, bounds, lent);
             print_listed(listed, lent, out)
         }
-        Slip::Decide { staff, door, quarter } => print_decision(decide(pool, staff, door, quarter), out),
+        Slip::Decide {
+            staff,
+            door,
+            quarter,
+        } => print_decision(decide(pool, staff, door, quarter), out),
         Slip::Count => print_counted(count(pool), out),
         Slip::Bad => print_bad(out),
     }

