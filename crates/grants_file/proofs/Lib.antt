@@ -7,3 +7,4 @@ pub mod FileLaws
 pub mod CauseLaws
 pub mod VerdictLaws
 pub mod OneByteLaws
+pub mod SetLaws
