@@ -8,6 +8,7 @@ pub mod RevokeLaws
 pub mod CallLaws
 pub mod HoldsLaws
 pub mod WriteLaws
+pub mod LoadLaws
 pub mod SoundLaws
 pub mod LinkCauseLaws
 pub mod OrderLaws
