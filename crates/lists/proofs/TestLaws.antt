@@ -8,6 +8,7 @@
 --   keep-append              what is kept of two lists in a row
 --   keep-map                 of a list that is made from another
 --   mem-keep, keep-mem       an element is kept exactly if it is in the list and passes
+--   length-keep              no more are kept than there are
 --   keep-none, keep-all      none is kept where none passes, and all where all pass
 --   keep-same                tests that agree on the elements keep the same
 --   keep-keep                a test that passes no more than another keeps as much of what the other kept
@@ -21,6 +22,7 @@ use native.Mathlib.Omega.{arith}
 use native.Mathlib.Decide.{ℕ-discrete}
 use native.Mathlib.Nat.{lt-suc-self}
 use lib.Dec.{T, leb}
+use lib.ListN.{length}
 use borrow.Author.Tests.{leb-true, le-leb}
 use Rattle.lists.specs.Tests.{keep, every, each}
 
@@ -98,6 +100,15 @@ module _ {A : Type 0} (t : A → Bool) where
       go true e (List·Memᴰ·head q) f = (List·Memᴰ·head q, ap t q ∙ e)
       go true e (List·Memᴰ·tail i) f = further (f i)
       go false e i f = further (f i)
+
+  pub length-keep : (xs : List A) → length (keep t xs) ≤ length xs
+  unfolding keep
+  length-keep [] = omega arith
+  length-keep (x ∷ xs) = go (t x) (length-keep xs)
+    where
+      go : (b : Bool) → length (keep t xs) ≤ length xs → length (cond b (x ∷ keep t xs) (keep t xs)) ≤ suc (length xs)
+      go true h = omega arith
+      go false h = omega arith
 
   pub keep-none : (xs : List A) → ((x : A) → List·Memᴰ x xs → t x ≡ false) → keep t xs ≡ []
   unfolding keep

@@ -4,7 +4,7 @@
 --   firstFault-front               what comes after a cause that holds does not matter
 --   append-absent                  where none of two rows of causes holds, none of either does
 --   firstFault-flatMap, flatMap-firstFault    none of joined causes holds exactly if none of each part does
---   accepted-none                  a call that is accepted met no cause
+--   accepted-none, accepted-done   a call that is accepted met no cause, and did what an accepted call does
 -- Assumes nothing.
 use Prim.Native.Nat.{ℕ}
 use mathlib.Core.Path.{_≡_, refl, ap, _∙_}
@@ -68,3 +68,8 @@ accepted-none {S} cs s lent d values = go (firstFault cs)
     go : (o : Option Fault) → stepBy o s lent d .answer ≡ accepted values → o ≡ none
     go none e = refl
     go (some f) e = absurd (refusal-accepted f values e)
+
+pub accepted-done : {S : Type 0} (cs : List Cause) (s : S) (lent : List ℕ) (d : Step S) (values : List ℕ) → refusing cs s lent d .answer ≡ accepted values
+    → refusing cs s lent d ≡ d
+unfolding refusing
+accepted-done cs s lent d values e = rw (accepted-none cs s lent d values e)
