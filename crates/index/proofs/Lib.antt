@@ -9,6 +9,7 @@ pub mod CallLaws
 pub mod HoldsLaws
 pub mod WriteLaws
 pub mod LoadLaws
+pub mod MatchLaws
 pub mod SoundLaws
 pub mod LinkCauseLaws
 pub mod OrderLaws
