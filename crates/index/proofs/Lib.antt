@@ -10,6 +10,7 @@ pub mod HoldsLaws
 pub mod WriteLaws
 pub mod LoadLaws
 pub mod MatchLaws
+pub mod AlikeLaws
 pub mod SoundLaws
 pub mod LinkCauseLaws
 pub mod OrderLaws

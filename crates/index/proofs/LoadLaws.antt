@@ -31,13 +31,13 @@ use Rattle.model.specs.declared.Kind.the-variants as kind
 use Rattle.model.specs.Kind.{kindNumber, kindOf}
 use Rattle.model.specs.Interval.{Interval}
 use Rattle.model.specs.Arguments.{reversedBox}
-use Rattle.model.specs.Refusal.{Step, firstFault, stepBy, refusing}
+use Rattle.model.specs.Refusal.{firstFault, refusing}
 use Rattle.model.specs.Answer.{accepted, refusal}
 use Rattle.model.specs.Call.{requested}
 use Rattle.model.specs.Values.{byteValues, Below, GrantFits, RequestFits}
 use Rattle.model.specs.Book.{Book, withLive, isLive, bookGrant}
 use Rattle.model.specs.Histories.{Told}
-use Rattle.model.proofs.RefusalLaws.{causes-absent, firstFault-append, firstFault-front, append-absent, accepted-none}
+use Rattle.model.proofs.RefusalLaws.{causes-absent, firstFault-append, refusing-front, append-absent, accepted-none}
 use Rattle.pool.specs.Capacity.{capacityOf, wrongLength}
 use Rattle.pool.specs.Fresh.{freshPool}
 use Rattle.pool.proofs.CapacityLaws.{Sized, capacityOf-poolLength, wrongLength-iff}
@@ -164,9 +164,5 @@ module _ {c : ℕ} (memory f : List ℕ) (z : Sized memory c) (below : Below byt
 
 pub load-refuses : (w f : List ℕ) (fault : Fault) → firstFault (fileCauses f) ≡ some fault
     → loadCall w f .answer ≡ cond (wrongLength w) (refusal BadPool) (refusal fault)
-unfolding loadCall loadOrder refusing firstFault
-load-refuses w f fault e = rw (firstFault-front (fileCauses f) _ fault e) (go (wrongLength w) _)
-  where
-    go : (b : Bool) (done : Step (List ℕ)) → stepBy (cond b (some BadPool) (some fault)) w [] done .answer ≡ cond b (refusal BadPool) (refusal fault)
-    go true done = refl
-    go false done = refl
+unfolding loadCall loadOrder
+load-refuses w f fault e = refusing-front _ (fileCauses f) _ w [] _ fault e

@@ -24,11 +24,11 @@ use Rattle.model.specs.declared.Matched.the-variants.{Equal, Differs}
 use Rattle.model.specs.Interval.{Interval}
 use Rattle.model.specs.Grant.{sameGrant, touches}
 use Rattle.model.specs.Answer.{accepted, refusal, matchedAnswer}
-use Rattle.model.specs.Refusal.{Step, firstFault, stepBy, refusing}
+use Rattle.model.specs.Refusal.{firstFault, refusing}
 use Rattle.model.specs.Book.{Book}
 use Rattle.model.proofs.AnswerLaws.{matchedAnswer-injective}
 use Rattle.model.proofs.GrantLaws.{sameGrant-iff}
-use Rattle.model.proofs.RefusalLaws.{firstFault-append, firstFault-front}
+use Rattle.model.proofs.RefusalLaws.{firstFault-append, refusing-front}
 use Rattle.pool.specs.Capacity.{wrongPool}
 use Rattle.grants_file.specs.File.{fileOf}
 use Rattle.grants_file.specs.Verdict.{fileCauses}
@@ -194,9 +194,5 @@ module _ {w : List ℕ} {b : Book} (h : Represents w b) {doors : Interval} {gs :
 
 pub match-refuses : (w f : List ℕ) (fault : Fault) → firstFault (fileCauses f) ≡ some fault
     → matchCall w f .answer ≡ cond (wrongPool w) (refusal BadPool) (refusal fault)
-unfolding matchCall matchOrder refusing firstFault
-match-refuses w f fault e = rw (firstFault-front (fileCauses f) _ fault e) (go (wrongPool w) _)
-  where
-    go : (b : Bool) (done : Step (List ℕ)) → stepBy (cond b (some BadPool) (some fault)) w [] done .answer ≡ cond b (refusal BadPool) (refusal fault)
-    go true done = refl
-    go false done = refl
+unfolding matchCall matchOrder
+match-refuses w f fault e = refusing-front _ (fileCauses f) _ w [] _ fault e

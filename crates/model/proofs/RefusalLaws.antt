@@ -4,6 +4,7 @@
 --   firstFault-front               what comes after a cause that holds does not matter
 --   append-absent                  where none of two rows of causes holds, none of either does
 --   firstFault-flatMap, flatMap-firstFault    none of joined causes holds exactly if none of each part does
+--   refusing-front                 the answer of a call whose line has a cause, and then causes of which one holds
 --   accepted-none, accepted-done   a call that is accepted met no cause, and did what an accepted call does
 -- Assumes nothing.
 use Prim.Native.Nat.{ℕ}
@@ -13,7 +14,7 @@ use mathlib.Core.List.{List, [], _∷_, _++_, flatMap, List·Memᴰ, List·Mem�
 use mathlib.Core.Option.{Option, none, some}
 use native.Mathlib.Omega.{arith}
 use Rattle.model.specs.declared.Fault.{Fault}
-use Rattle.model.specs.Answer.{accepted}
+use Rattle.model.specs.Answer.{accepted, refusal}
 use Rattle.model.specs.Refusal.{Cause, Step, firstFault, stepBy, refusing}
 use Rattle.model.proofs.AnswerLaws.{refusal-accepted}
 
@@ -59,6 +60,15 @@ module _ {A : Type 0} (causes : A → List Cause) where
   unfolding flatMap
   flatMap-firstFault (y ∷ ys) e x (List·Memᴰ·head q) = ap (λ (z : A). firstFault (causes z)) q ∙ append-absent (causes y) (flatMap causes ys) e .0
   flatMap-firstFault (y ∷ ys) e x (List·Memᴰ·tail m) = flatMap-firstFault ys (append-absent (causes y) (flatMap causes ys) e .1) x m
+
+pub refusing-front : {S : Type 0} (c : Cause) (cs ds : List Cause) (s : S) (lent : List ℕ) (d : Step S) (f : Fault) → firstFault cs ≡ some f
+    → refusing (c ∷ cs ++ ds) s lent d .answer ≡ cond (c .present) (refusal (c .fault)) (refusal f)
+unfolding refusing firstFault
+refusing-front c cs ds s lent d f e = rw (firstFault-front cs ds f e) (go (c .present))
+  where
+    go : (b : Bool) → stepBy (cond b (some (c .fault)) (some f)) s lent d .answer ≡ cond b (refusal (c .fault)) (refusal f)
+    go true = refl
+    go false = refl
 
 pub accepted-none : {S : Type 0} (cs : List Cause) (s : S) (lent : List ℕ) (d : Step S) (values : List ℕ) → refusing cs s lent d .answer ≡ accepted values
     → firstFault cs ≡ none
