@@ -5,3 +5,4 @@ pub mod TriedCases
 pub mod Answers
 pub mod NeverBroken
 pub mod Demand1
+pub mod Demand3
