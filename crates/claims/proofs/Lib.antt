@@ -5,4 +5,5 @@ pub mod TriedCases
 pub mod Answers
 pub mod NeverBroken
 pub mod Demand1
+pub mod Demand2
 pub mod Demand3
