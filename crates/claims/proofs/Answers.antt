@@ -1,11 +1,12 @@
 -- Demand 3's heart: every list of calls on a fresh index is told what the plain book tells it, and leaves words that stand for the book then.
 --   represents-calls     of any words that stand for a book, and that book
+--   represents-files     write there gives the file of any doors and the live grants touching them
 --   memory-sized         memory for a pool, as index/proofs speak of it
 --   started              start is accepted
 --   calls-answer         the answers are the book's
 --   calls-represent      the words after stand for the book after
 --   calls-hold           they hold its live grants on one tree
---   calls-write          write gives the file of any doors and the live grants touching them
+--   calls-write          and write gives the files of the live grants
 -- Assumes nothing.
 use Prim.Native.Nat.{ℕ}
 use mathlib.Core.Path.{_≡_}
@@ -35,6 +36,9 @@ pub represents-calls : {w : List ℕ} {b : Book} → Represents w b → (calls :
     → (told wordsStep w calls ≡ told bookStep b calls) × Represents (after wordsStep w calls) (after bookStep b calls)
 represents-calls {w} {b} h calls fit = calls-refine wordsStep bookStep Represents CallFits call-refines w b calls fit h
 
+pub represents-files : {w : List ℕ} {b : Book} → Represents w b → (doors : Interval) → DoorRange doors → Writes w doors (fileOf doors (touching doors (b .live)))
+represents-files h doors range = represents-writes h doors (le-ltb (doors .to) (doors .from) (range .order))
+
 pub memory-sized : {c : ℕ} {memory : List ℕ} → Memory c memory → Sized memory c
 memory-sized m = record { some = m .some; few = m .few; long = m .long }
 
@@ -56,4 +60,4 @@ module _ {c : ℕ} {memory : List ℕ} (m : Memory c memory) where
     calls-hold = rw (after-capacity (emptyBook c) calls) at (represents-holds calls-represent)
 
     pub calls-write : (doors : Interval) → DoorRange doors → Writes (wordsAfter memory calls) doors (fileOf doors (touching doors (liveAfter c calls)))
-    calls-write doors range = represents-writes calls-represent doors (le-ltb (doors .to) (doors .from) (range .order))
+    calls-write = represents-files calls-represent

@@ -13,7 +13,6 @@ use mathlib.Core.Path.{_≡_, sym, ap, _∙_}
 use mathlib.Core.Bool.{cond}
 use mathlib.Core.List.{List, [], _∷_, map, List·Memᴰ, Memᴰ·map, Memᴰ·of-map, Memᴰ·cast}
 use lib.ListN.{length, getD, set, take}
-use borrow.Author.Tests.{le-ltb}
 use Rattle.lists.proofs.TestLaws.{T-iff}
 use Rattle.lists.proofs.KeyLaws.{distinct-keys-keep}
 use Rattle.lists.proofs.SortLaws.{rises-keep, rises-map, rises-getD}
@@ -51,11 +50,10 @@ use Rattle.index.proofs.Represents.{numberOf, Represents, live-distinct, repres
 use Rattle.index.proofs.QueryLaws.{list-refines, decide-refines}
 use Rattle.index.proofs.StartLaws.{start-sized}
 use Rattle.index.proofs.HoldsLaws.{represents-holds}
-use Rattle.index.proofs.WriteLaws.{represents-writes}
 use Rattle.index.proofs.LoadLaws.{bookOf, set-represents, load-set, load-represents, load-refuses}
 use Rattle.index.proofs.MatchLaws.{match-equal, match-differs, match-refuses}
 use Rattle.claims.specs.Claims.{Memory, touching, Writes, ListsOverlapping, Decides, MatchesSet, Demand2}
-use Rattle.claims.proofs.Answers.{represents-calls, memory-sized, calls-represent}
+use Rattle.claims.proofs.Answers.{represents-calls, represents-files, memory-sized, calls-represent}
 
 module _ {w : List ℕ} {b : Book} (h : Represents w b) where
   pub list-overlapping : (q : Box) (lent : List ℕ) (n : ℕ) → listCall w q lent .answer ≡ accepted (n ∷ [])
@@ -125,10 +123,6 @@ module _ {w : List ℕ} {b : Book} (h : Represents w b) where
 
   pub matches-set : (doors : Interval) (gs : List Grant) → FileSet doors gs → MatchesSet w (b .live) doors gs
   matches-set doors gs s = record { equal = match-equal h s; differs = match-differs h s }
-
-  -- write, for any door range
-  represents-files : (doors : Interval) → DoorRange doors → Writes w doors (fileOf doors (touching doors (b .live)))
-  represents-files doors range = represents-writes h doors (le-ltb (doors .to) (doors .from) (range .order))
 
 pub writer-makes : (doors : Interval) (gs hs : List Grant) (c : ℕ) (memory : List ℕ) → FileSet doors gs → Ordering gs hs → Memory c memory → length gs ≤ c
     → Writes (grantAll (startCall memory .state) hs) doors (fileOf doors gs)

@@ -42,6 +42,7 @@ use Rattle.grants_file.proofs.VerdictLaws.{fileOf-accepted}
 use Rattle.index.specs.Calls.{listCall, wordsStep}
 use Rattle.index.specs.FileCalls.{requestOf, loadCall}
 use Rattle.index.proofs.QueryLaws.{list-refines}
+use Rattle.index.proofs.LoadLaws.{requestOf-fits}
 use Rattle.claims.specs.Claims.{Memory, wordsAfter, liveAfter, touching, Made, made-start, made-load}
 use Rattle.claims.proofs.Answers.{calls-represent}
 use Rattle.claims.proofs.Demand2.{loads}
@@ -87,11 +88,7 @@ grant-met =
     (record { number = omega arith; rank = omega arith; bounds = below-test wordValues (boxValues (nine .bounds)) tt })
 
 pub calls-met : CallsFit calls
-unfolding every
-calls-met =
-    both CallFits
-    (record { number = omega arith; rank = omega arith; bounds = below-test wordValues (boxValues (seven .bounds)) tt })
-    (record { number = omega arith; rank = omega arith; bounds = below-test wordValues (boxValues (nine .bounds)) tt })
+calls-met = both CallFits (requestOf-fits (grant-met seven (List·Memᴰ·head refl))) (requestOf-fits (grant-met nine (List·Memᴰ·tail (List·Memᴰ·head refl))))
 
 pub memory-met : Memory 2 memory
 memory-met = record { some = omega arith; few = omega arith; long = refl }

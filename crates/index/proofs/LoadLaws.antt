@@ -1,6 +1,7 @@
 -- Grants in a row on words that stand for a plain book, and load (document 01, "The grants file").
 --   bookOf c gs             the book of c cells that holds gs
 --   Grantable g             a grant that grant takes: its values fit, its number is not 0, its box is not reversed
+--   requestOf-fits          a grant that fits, as grant takes it
 --   grant-adds              grant takes it, where its number is new and a cell is free
 --   grantAll-represents     so it does a list of grants of differing numbers, where cells are enough
 --   set-represents          the set of a file, granted to a fresh index in any order
@@ -70,6 +71,9 @@ requested-requestOf g = λ i. record { number = g .number; rank = g .rank; kind 
     back kind.Bars = refl
     back kind.Opens = refl
 
+pub requestOf-fits : {g : Grant} → GrantFits g → RequestFits (requestOf g)
+requestOf-fits f = record { number = f .number; rank = f .rank; bounds = f .bounds }
+
 known-kind : (k : Kind) → ltb 1 (kindNumber k) ≡ false
 known-kind kind.Bars = refl
 known-kind kind.Opens = refl
@@ -85,8 +89,7 @@ bookGrant-adds b g t new room =
 module _ {w : List ℕ} {b : Book} (h : Represents w b) (g : Grant) (t : Grantable g) (new : isLive b (g .number) ≡ false) (room : length (b .live) < b .capacity) where
   pub grant-adds : (grantCall w (requestOf g) .answer ≡ accepted []) × Represents (grantCall w (requestOf g) .state) (withLive b (insertBy numberOf g (b .live)))
   grant-adds =
-      let fits : RequestFits (requestOf g) = record { number = t .fits .number; rank = t .fits .rank; bounds = t .fits .bounds } in
-      let agrees = rw (bookGrant-adds b g t new room) at (grant-refines h (requestOf g) fits) in
+      let agrees = rw (bookGrant-adds b g t new room) at (grant-refines h (requestOf g) (requestOf-fits (t .fits))) in
       (ap (λ (x : Told). x .answer) (agrees .same), agrees .related)
 
 -- a number that no live grant has is not live

@@ -1,5 +1,5 @@
 -- match on words that stand for a plain book (document 01, "The grants file").
---   Compared gs hs r     r says of the grants gs and hs that they are the same, or where they differ first
+--   Compared hs gs r     r says of the grants hs and gs that they are the same, or where they differ first
 --   first-difference     so the walk over two lists of rising numbers says
 --   same-iff, least-iff  equal exactly if they have the same members, a number exactly if it is the least at which they differ
 --   match-set            what match answers, of the file of a set
@@ -11,9 +11,9 @@ use mathlib.Core.Logic.{_↔_, _⊎_, inl, inr, _≢_}
 use mathlib.Core.Path.{_≡_, refl, sym, ap, ap₂, subst, _∙_}
 use mathlib.Core.Bool.{Bool, true, false, cond, false≢true}
 use mathlib.Core.List.{List, [], _∷_, List·Memᴰ, List·Memᴰ·head, List·Memᴰ·tail, List·Memᴰ·not-nil}
+use mathlib.Core.Option.{none, some}
 use native.Mathlib.Omega.{arith}
 use native.Mathlib.Decide.{decLt}
-use mathlib.Core.Option.{none, some}
 use Rattle.lists.specs.Tests.{keep}
 use Rattle.lists.proofs.SortLaws.{Rises, rises-more, rises-keep}
 use Rattle.model.specs.declared.Fault.{Fault}
@@ -47,6 +47,10 @@ pub data Compared (hs gs : List Grant) : Matched → Type 0 where
   compared-same : gs ≡ hs → Compared hs gs Equal
   compared-differs : {n : ℕ} → LeastDifference n gs hs → Compared hs gs (Differs n)
 
+-- x is in the first list alone
+abbrev Alone : Grant → List Grant → List Grant → Type 0
+Alone x gs hs = List·Memᴰ x gs × (List·Memᴰ x hs → ⊥)
+
 -- the first number of a list that rises is its least
 first-least : {g : Grant} {gs : List Grant} → Rises numberOf (g ∷ gs) → (x : Grant) → List·Memᴰ x (g ∷ gs) → g .number ≤ x .number
 first-least {g} (rises-more f r) x (List·Memᴰ·head e) = omega (arith, ap numberOf e)
@@ -55,17 +59,13 @@ first-least {g} (rises-more f r) x (List·Memᴰ·tail m) = omega (arith, f x m)
 -- a grant of the number n that is in one of the lists alone, where both have numbers from n on only
 module _ {gs hs : List Grant} (n : ℕ) (g : Grant) (number : g .number ≡ n)
     (above : (x : Grant) → List·Memᴰ x gs → n ≤ x .number) (above′ : (x : Grant) → List·Memᴰ x hs → n ≤ x .number)
-    (alone : (List·Memᴰ g gs × (List·Memᴰ g hs → ⊥)) ⊎ (List·Memᴰ g hs × (List·Memᴰ g gs → ⊥))) where
+    (alone : Alone g gs hs ⊎ Alone g hs gs) where
   least-here : LeastDifference n gs hs
   least-here = record { differs = record { grant = g; number = number; alone = alone }; least = λ m l d. none m l (d .grant) (d .number) (d .alone) }
     where
-      none : (m : ℕ) → m < n → (x : Grant) → x .number ≡ m → (List·Memᴰ x gs × (List·Memᴰ x hs → ⊥)) ⊎ (List·Memᴰ x hs × (List·Memᴰ x gs → ⊥)) → ⊥
+      none : (m : ℕ) → m < n → (x : Grant) → x .number ≡ m → Alone x gs hs ⊎ Alone x hs gs → ⊥
       none m l x e (inl i) = omega (arith, above x (i .0))
       none m l x e (inr i) = omega (arith, above′ x (i .0))
-
--- x is in the first list alone
-abbrev Alone : Grant → List Grant → List Grant → Type 0
-Alone x gs hs = List·Memᴰ x gs × (List·Memᴰ x hs → ⊥)
 
 -- what is in one of two lists alone is so with one grant more in front of both, and the other way round
 module _ {g h : Grant} (same : g ≡ h) {gs hs : List Grant} where
