@@ -1,10 +1,12 @@
 -- Demand 3's heart: every list of calls on a fresh index is told what the plain book tells it, and leaves words that stand for the book then.
+--   represents-calls     of any words that stand for a book, and that book
+--   represents-files     write there gives the file of any doors and the live grants touching them
 --   memory-sized         memory for a pool, as index/proofs speak of it
 --   started              start is accepted
 --   calls-answer         the answers are the book's
 --   calls-represent      the words after stand for the book after
 --   calls-hold           they hold its live grants on one tree
---   calls-write          write gives the file of any doors and the live grants touching them
+--   calls-write          and write gives the files of the live grants
 -- Assumes nothing.
 use Prim.Native.Nat.{ℕ}
 use mathlib.Core.Path.{_≡_}
@@ -14,7 +16,7 @@ use Rattle.model.specs.Interval.{Interval}
 use Rattle.model.specs.Answer.{accepted}
 use Rattle.model.specs.Call.{Call}
 use Rattle.model.specs.Values.{CallFits, CallsFit}
-use Rattle.model.specs.Book.{emptyBook, bookStep}
+use Rattle.model.specs.Book.{Book, emptyBook, bookStep}
 use Rattle.model.specs.Histories.{told, after}
 use Rattle.model.proofs.BookLaws.{after-capacity}
 use Rattle.model.proofs.Simulation.{calls-refine}
@@ -30,6 +32,13 @@ use Rattle.index.proofs.WriteLaws.{represents-writes}
 use Rattle.index.proofs.CallLaws.{call-refines}
 use Rattle.claims.specs.Claims.{Memory, wordsAfter, liveAfter, touching, Writes}
 
+pub represents-calls : {w : List ℕ} {b : Book} → Represents w b → (calls : List Call) → CallsFit calls
+    → (told wordsStep w calls ≡ told bookStep b calls) × Represents (after wordsStep w calls) (after bookStep b calls)
+represents-calls {w} {b} h calls fit = calls-refine wordsStep bookStep Represents CallFits call-refines w b calls fit h
+
+pub represents-files : {w : List ℕ} {b : Book} → Represents w b → (doors : Interval) → DoorRange doors → Writes w doors (fileOf doors (touching doors (b .live)))
+represents-files h doors range = represents-writes h doors (le-ltb (doors .to) (doors .from) (range .order))
+
 pub memory-sized : {c : ℕ} {memory : List ℕ} → Memory c memory → Sized memory c
 memory-sized m = record { some = m .some; few = m .few; long = m .long }
 
@@ -37,18 +46,18 @@ module _ {c : ℕ} {memory : List ℕ} (m : Memory c memory) where
   pub started : startCall memory .answer ≡ accepted []
   started = start-refines memory (memory-sized m) .0
 
-  module _ (calls : List Call) (fit : CallsFit calls) where
-    both : (told wordsStep (startCall memory .state) calls ≡ told bookStep (emptyBook c) calls) × Represents (wordsAfter memory calls) (after bookStep (emptyBook c) calls)
-    both = calls-refine wordsStep bookStep Represents CallFits call-refines (startCall memory .state) (emptyBook c) calls fit (start-refines memory (memory-sized m) .1)
+  fresh : Represents (startCall memory .state) (emptyBook c)
+  fresh = start-refines memory (memory-sized m) .1
 
+  module _ (calls : List Call) (fit : CallsFit calls) where
     pub calls-answer : told wordsStep (startCall memory .state) calls ≡ told bookStep (emptyBook c) calls
-    calls-answer = both .0
+    calls-answer = represents-calls fresh calls fit .0
 
     pub calls-represent : Represents (wordsAfter memory calls) (after bookStep (emptyBook c) calls)
-    calls-represent = both .1
+    calls-represent = represents-calls fresh calls fit .1
 
     pub calls-hold : Holds (wordsAfter memory calls) c (liveAfter c calls)
     calls-hold = rw (after-capacity (emptyBook c) calls) at (represents-holds calls-represent)
 
     pub calls-write : (doors : Interval) → DoorRange doors → Writes (wordsAfter memory calls) doors (fileOf doors (touching doors (liveAfter c calls)))
-    calls-write doors range = represents-writes calls-represent doors (le-ltb (doors .to) (doors .from) (range .order))
+    calls-write = represents-files calls-represent

@@ -1,9 +1,9 @@
--- Demand 1, field by field, but for the last: each call is judged by its order line, with 9's causes and the hits taken from document 01's
--- links, and every call but start, load, grant and revoke leaves the pool as it was.
+-- Demand 1, field by field: each call is judged by its order line, with 9's causes and the hits taken from document 01's links, and every
+-- call but start, load, grant and revoke leaves the pool as it was.
 --   start-judged .. block-judged    one law for each call, of the type of its field in specs/Claims
 --   keeps-pool                      the field of that name
---   NeverBroken, demand1-from       the last field's type, and the whole demand from it
--- Not here: that pools made by calls never give 9. Assumes nothing.
+--   demand1                         the demand; its last field, that pools made by calls never give 9, stands in NeverBroken
+-- Assumes nothing.
 use Prim.Native.Nat.{ℕ, min}
 use mathlib.Core.Path.{_≡_, refl, ap}
 use mathlib.Core.Bool.{Bool, true, false, cond}
@@ -19,8 +19,7 @@ use Rattle.model.specs.Grant.{sameGrant}
 use Rattle.model.specs.Answer.{Answer, accepted, decisionAnswer, matchedAnswer}
 use Rattle.model.specs.Decide.{decidingOf, decisionOf, decideAmong}
 use Rattle.model.specs.Refusal.{Cause, Step, refusing, firstFault}
-use Rattle.model.specs.Call.{Request, Call}
-use Rattle.model.specs.Values.{CallFits}
+use Rattle.model.specs.Call.{Request}
 use Rattle.model.specs.Judged.{Judged}
 use Rattle.model.proofs.JudgedLaws.{refusing-judged, judged-same, refusing-keeps-state}
 use Rattle.geometry.specs.SearchRange.{rangeOfBox, rangeOfDoors, rangeOfNumber, rangeOfAll}
@@ -28,11 +27,12 @@ use Rattle.grants_file.specs.File.{doorsIn}
 use Rattle.grants_file.specs.BlockRead.{readCauses}
 use Rattle.index.specs.LinkCauses.{searchMeets9, searchHits, grantMeets9, revokeMeets9}
 use Rattle.index.specs.Order.{startOrder, grantOrder, revokeOrder, listOrder, lookOrder, writeOrder, loadOrder, matchOrder}
-use Rattle.index.specs.Calls.{startCall, grantCall, revokeCall, listCall, decideCall, countCall, wordsStep}
+use Rattle.index.specs.Calls.{startCall, grantCall, revokeCall, listCall, decideCall, countCall}
 use Rattle.index.specs.FileCalls.{writeCall, loadCall, firstDifference, matchCall, blockCall}
-use Rattle.claims.specs.Claims.{Made, Sound, Demand1}
 use Rattle.index.proofs.LinkCauseLaws.{isBroken-links}
 use Rattle.index.proofs.OrderLaws.{grantOrder-links, revokeOrder-links, listOrder-links, writeOrder-links}
+use Rattle.claims.specs.Claims.{Demand1}
+use Rattle.claims.proofs.NeverBroken.{made-never-broken}
 
 -- an answer that is no refusal
 abbrev Taken : Answer → Type 0
@@ -127,16 +127,8 @@ keeps-pool w q doors lent f staff door quarter = (
   refusing-keeps-state _ w [] _ refl,
 )
 
--- the last field: no call gives 9, nor 1, on a pool that start or load and later calls made
-abbrev pub NeverBroken : Type 0
-NeverBroken =
-    (c : ℕ) (w : List ℕ) → Made c w
-    → ((call : Call) → CallFits call → Sound (wordsStep w call .answer))
-    × ((doors : Interval) (lent : List ℕ) → Sound (writeCall w doors lent .answer))
-    × ((f : List ℕ) → Sound (matchCall w f .answer))
-
-pub demand1-from : NeverBroken → Demand1
-demand1-from never-broken =
+pub demand1 : Demand1
+demand1 =
     record {
       start = start-judged;
       grant = grant-judged;
@@ -149,5 +141,5 @@ demand1-from never-broken =
       «match» = match-judged;
       block = block-judged;
       keeps-pool = keeps-pool;
-      never-broken = never-broken;
+      never-broken = made-never-broken;
     }

@@ -5,3 +5,6 @@ pub mod TriedCases
 pub mod Answers
 pub mod NeverBroken
 pub mod Demand1
+pub mod Demand2
+pub mod Demand3
+pub mod Premises

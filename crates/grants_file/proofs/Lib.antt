@@ -12,3 +12,4 @@ pub mod BlockSteps
 pub mod FileSteps
 pub mod BlockReadSteps
 pub mod VerdictSteps
+pub mod SetLaws

@@ -8,6 +8,9 @@ pub mod RevokeLaws
 pub mod CallLaws
 pub mod HoldsLaws
 pub mod WriteLaws
+pub mod LoadLaws
+pub mod MatchLaws
+pub mod AlikeLaws
 pub mod SoundLaws
 pub mod LinkCauseLaws
 pub mod OrderLaws

@@ -11,7 +11,7 @@
 --   parts-joined                       the parts of one width, joined, are the list
 --   part-flatMap                       a part of a joined list, where the parts before it are of one width, and it is too unless it is the last
 --   parts-flatMap                      all parts of a joined list, where every part is of one width
---   sameNumbers-true                   lists that the test finds equal are equal
+--   sameNumbers-true, sameNumbers-same lists that the test finds equal are equal, and it finds a list equal to itself
 --   every-zero, zero-every             a list passes as zeros exactly if it is zeros
 -- Assumes nothing.
 use Prim.Native.Nat.{ℕ, zero, suc, _+_, _*_, _≤_, _<_}
@@ -21,7 +21,7 @@ use mathlib.Core.Bool.{true, and-eq-true-iff, false≢true}
 use mathlib.Core.List.{List, [], _∷_, _++_, map, flatMap, append-nil, append-assoc, map-map, map-append, List·Memᴰ, List·Memᴰ·head, List·Memᴰ·tail, List·Memᴰ·not-nil, List·Memᴰ·append-cases}
 use native.Mathlib.Nat.{mul-suc, mul-zero, add-zero, zero-add, add-suc, suc-add, add-comm}
 use native.Mathlib.Omega.{arith}
-use borrow.Author.Tests.{eqb-true}
+use borrow.Author.Tests.{eqb-true, eq-eqb}
 use lib.Dec.{eqb}
 use lib.ListN.{replicate, length, getD, take, drop, length-append}
 use lib.Seq.{drop-cons, take-all, take-add, drop-drop, drop-at, take-at}
@@ -156,6 +156,11 @@ sameNumbers-true (x ∷ xs) [] e = absurd (false≢true e)
 sameNumbers-true (x ∷ xs) (y ∷ ys) e =
     let both = and-eq-true-iff (eqb x y) (sameNumbers xs ys) .0 e in
     ap₂ _∷_ (eqb-true x y (both .0)) (sameNumbers-true xs ys (both .1))
+
+pub sameNumbers-same : (xs : List ℕ) → sameNumbers xs xs ≡ true
+unfolding sameNumbers
+sameNumbers-same [] = refl
+sameNumbers-same (x ∷ xs) = rw (eq-eqb x x refl) (sameNumbers-same xs)
 
 -- a list of zeros
 pub every-zero : (xs : List ℕ) → every (λ x. eqb x 0) xs ≡ true → xs ≡ replicate (length xs) 0

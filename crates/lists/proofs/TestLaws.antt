@@ -8,8 +8,10 @@
 --   keep-append              what is kept of two lists in a row
 --   keep-map                 of a list that is made from another
 --   mem-keep, keep-mem       an element is kept exactly if it is in the list and passes
+--   length-keep              no more are kept than there are
 --   keep-none, keep-all      none is kept where none passes, and all where all pass
 --   keep-same                tests that agree on the elements keep the same
+--   keep-keep                a test that passes no more than another keeps as much of what the other kept
 -- Assumes nothing.
 use Prim.Native.Nat.{ℕ, zero, suc, _<_, _≤_}
 use mathlib.Core.Logic.{_↔_}
@@ -20,6 +22,7 @@ use native.Mathlib.Omega.{arith}
 use native.Mathlib.Decide.{ℕ-discrete}
 use native.Mathlib.Nat.{lt-suc-self}
 use lib.Dec.{T, leb}
+use lib.ListN.{length}
 use borrow.Author.Tests.{leb-true, le-leb}
 use Rattle.lists.specs.Tests.{keep, every, each}
 
@@ -98,6 +101,15 @@ module _ {A : Type 0} (t : A → Bool) where
       go true e (List·Memᴰ·tail i) f = further (f i)
       go false e i f = further (f i)
 
+  pub length-keep : (xs : List A) → length (keep t xs) ≤ length xs
+  unfolding keep
+  length-keep [] = omega arith
+  length-keep (x ∷ xs) = go (t x) (length-keep xs)
+    where
+      go : (b : Bool) → length (keep t xs) ≤ length xs → length (cond b (x ∷ keep t xs) (keep t xs)) ≤ suc (length xs)
+      go true h = omega arith
+      go false h = omega arith
+
   pub keep-none : (xs : List A) → ((x : A) → List·Memᴰ x xs → t x ≡ false) → keep t xs ≡ []
   unfolding keep
   keep-none [] f = refl
@@ -121,3 +133,12 @@ keep-map {A} {B} t f (x ∷ xs) = go (t (f x)) (keep (λ y. t (f y)) xs) (keep-m
     go : (b : Bool) {ys : List B} (zs : List A) → ys ≡ map f zs → cond b (f x ∷ ys) ys ≡ map f (cond b (x ∷ zs) zs)
     go true zs e = ap (λ (l : List B). f x ∷ l) e
     go false zs e = e
+
+pub keep-keep : {A : Type 0} (t u : A → Bool) (xs : List A) → ((x : A) → List·Memᴰ x xs → t x ≡ true → u x ≡ true) → keep t (keep u xs) ≡ keep t xs
+unfolding keep
+keep-keep t u [] f = refl
+keep-keep {A} t u (x ∷ xs) f = go (u x) (f x (List·Memᴰ·head refl)) (keep-keep t u xs (λ y m. f y (List·Memᴰ·tail m)))
+  where
+    go : (b : Bool) → (t x ≡ true → b ≡ true) → keep t (keep u xs) ≡ keep t xs → keep t (cond b (x ∷ keep u xs) (keep u xs)) ≡ keep t (x ∷ xs)
+    go true h e = ap (λ (l : List A). cond (t x) (x ∷ l) l) e
+    go false h e = rw (tests-agree (t x) false h (λ p. absurd (false≢true p))) e

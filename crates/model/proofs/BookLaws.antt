@@ -1,24 +1,32 @@
 -- What every step of the plain book keeps, and what it never answers.
 --   bookStep-capacity, after-capacity      C stays
 --   bookStep-sound                         neither fault 1 nor fault 9
+--   bookList-writes                        what an accepted list wrote
+--   bookList-same, bookDecide-same         what list and decide tell goes by the grants that overlap alone
 -- Assumes nothing.
 use Prim.Native.Nat.{ℕ}
-use mathlib.Core.Path.{_≡_, refl, _∙_}
+use mathlib.Core.Path.{_≡_, refl, ap, _∙_}
 use mathlib.Core.Bool.{true}
-use mathlib.Core.List.{List, [], _∷_}
+use mathlib.Core.List.{List, [], _∷_, map}
 use mathlib.Core.Option.{Option, none, some}
+use lib.ListN.{length, take}
+use lib.Seq.{take-at}
 use Rattle.lists.specs.Tests.{every}
+use Rattle.lists.specs.Overwrite.{overwrite}
 use Rattle.model.specs.declared.Fault.{Fault}
 use Rattle.model.specs.declared.Kind.{Kind}
 use Rattle.model.specs.declared.Kind.the-variants.{Bars, Opens}
+use Rattle.model.specs.declared.Box.{Box}
 use Rattle.model.specs.declared.Grant.{Grant}
 use Rattle.model.specs.Box.{pointBox}
-use Rattle.model.specs.Answer.{decisionAnswer}
+use Rattle.model.specs.Answer.{accepted, decisionAnswer}
 use Rattle.model.specs.Refusal.{Cause, Step, firstFault, stepBy, refusing}
 use Rattle.model.specs.Decide.{decidingOf, decisionOf, decideAmong}
 use Rattle.model.specs.Call.{Call, grant, revoke, list, decide, count}
 use Rattle.model.specs.Book.{Book, overlapping, bookGrant, bookRevoke, bookList, bookDecide, bookCount, bookStep}
-use Rattle.model.specs.Histories.{after}
+use Rattle.model.specs.Histories.{toldBy, after}
+use Rattle.model.proofs.RefusalLaws.{accepted-done}
+use Rattle.model.proofs.Simulation.{Agrees, refusing-agrees}
 use Rattle.model.proofs.SoundLaws.{soundAnswer, refusing-sound}
 
 refusing-capacity : (cs : List Cause) (b : Book) (lent : List ℕ) (d : Step Book) → d .state .capacity ≡ b .capacity → refusing cs b lent d .state .capacity ≡ b .capacity
@@ -58,3 +66,28 @@ bookStep-sound b (revoke n) = refusing-sound _ b [] _ refl refl
 bookStep-sound b (list q lent) = refusing-sound _ b lent _ refl refl
 bookStep-sound b (decide staff door quarter) = decideAmong-sound (overlapping (pointBox staff door quarter) (b .live))
 bookStep-sound b count = refl
+
+abbrev numberOf : Grant → ℕ
+numberOf g = g .number
+
+pub bookList-writes : (b : Book) (q : Box) (lent : List ℕ) (n : ℕ) → bookList b q lent .answer ≡ accepted (n ∷ [])
+    → take n (bookList b q lent .lent) ≡ map numberOf (overlapping q (b .live))
+unfolding bookList overwrite
+bookList-writes b q lent n taken =
+    let numbers = map numberOf (overlapping q (b .live)) in
+    let done = accepted-done _ b lent _ (n ∷ []) taken in
+    let count : length numbers ≡ n = cc in
+    ap (λ (r : Step Book). take n (r .lent)) done ∙ take-at numbers _ n count
+
+module _ (b d : Book) where
+  pub bookList-same : (q : Box) (lent : List ℕ) → overlapping q (b .live) ≡ overlapping q (d .live) → toldBy (bookList b q lent) ≡ toldBy (bookList d q lent)
+  unfolding bookList
+  bookList-same q lent same =
+      let agrees : Agrees (λ (x y : Book). Unit {0}) (bookList b q lent) (bookList d q lent) =
+      refusing-agrees (λ (x y : Book). Unit {0}) _ _ lent _ _ tt (rw same) (λ none. record { same = rw same; related = tt }) in
+      agrees .same
+
+  pub bookDecide-same : (staff door quarter : ℕ) → overlapping (pointBox staff door quarter) (b .live) ≡ overlapping (pointBox staff door quarter) (d .live)
+      → toldBy (bookDecide b staff door quarter) ≡ toldBy (bookDecide d staff door quarter)
+  unfolding bookDecide
+  bookDecide-same staff door quarter same = rw same

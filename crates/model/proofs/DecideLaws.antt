@@ -4,18 +4,26 @@
 --   deciding-mem               the one that decides is one of them
 --   deciding-first             each of them yields to it
 --   decideAmong-perm           so the same decides in any order
+--   decideAmong-none           none decides exactly if there is none
+--   Foremost g gs              g is one of them, and outranks every other
+--   foremost-decides           which is that it decides
 -- Assumes nothing.
-use Prim.Native.Nat.{_<_, _≤_}
+use Prim.Native.Nat.{ℕ, _<_, _≤_}
+use mathlib.Core.Logic.{_↔_, _≢_}
 use mathlib.Core.Path.{_≡_, refl, sym, ap, subst, _∙_}
 use mathlib.Core.Bool.{Bool, true, false, cond, _&&_, _||_, true≢false, false≢true}
 use mathlib.Core.List.{List, [], _∷_, map, List·Memᴰ, List·Memᴰ·head, List·Memᴰ·tail, List·Memᴰ·not-nil}
 use native.Mathlib.Omega.{arith}
+use native.Mathlib.Decide.{ℕ-discrete}
 use lib.Dec.{ltb, eqb}
 use borrow.Author.Tests.{ltb-true, ltb-false, eqb-true, eqb-false}
 use Rattle.lists.proofs.DistinctLaws.{Distinct}
 use Rattle.lists.proofs.KeyLaws.{distinct-key}
 use Rattle.lists.proofs.PermLaws.{Perm, perm-sym, perm-mem}
+use Rattle.model.specs.declared.Kind.{Kind}
+use Rattle.model.specs.declared.Kind.the-variants as kind
 use Rattle.model.specs.declared.Grant.{Grant}
+use Rattle.model.specs.declared.Decision.the-variants as decision
 use Rattle.model.specs.Decide.{outranks, decidingOf, decisionOf, decideAmong}
 
 pub data Yields (g h : Grant) : Type 0 where
@@ -104,3 +112,56 @@ decideAmong-perm {gs = g ∷ gs} {hs = h ∷ hs} p d =
     let here = perm-mem (perm-sym p) (deciding-mem h hs) in
     let same = yields-both (deciding-first h hs (decidingOf g gs) (perm-mem p there)) (deciding-first g gs (decidingOf h hs) here) in
     ap (λ (x : Grant). decisionOf (x .kind) x) (distinct-key (λ g. g .number) d (decidingOf g gs) (decidingOf h hs) there here same)
+
+decisionOf-some : (k : Kind) (g : Grant) → decisionOf k g ≡ decision.None → ⊥
+decisionOf-some kind.Bars g e = let z : _≡_ {A = ℕ} 0 1 = cc in omega arith
+decisionOf-some kind.Opens g e = let z : _≡_ {A = ℕ} 0 1 = cc in omega arith
+
+decisionOf-injective : (j k : Kind) (g h : Grant) → decisionOf j g ≡ decisionOf k h → g ≡ h
+decisionOf-injective kind.Bars kind.Bars g h e = cc
+decisionOf-injective kind.Bars kind.Opens g h e = cc
+decisionOf-injective kind.Opens kind.Bars g h e = cc
+decisionOf-injective kind.Opens kind.Opens g h e = cc
+
+pub decideAmong-none : (gs : List Grant) → (decideAmong gs ≡ decision.None) ↔ ((g : Grant) → List·Memᴰ g gs → ⊥)
+unfolding decideAmong
+decideAmong-none [] = (λ e g m. List·Memᴰ·not-nil m, λ h. refl)
+decideAmong-none (g ∷ gs) =
+    let d = decidingOf g gs in
+    (λ e. absurd (decisionOf-some (d .kind) d e), λ h. absurd (h g (List·Memᴰ·head refl)))
+
+pub record Foremost (g : Grant) (gs : List Grant) : Type 0 where
+  pub member : List·Memᴰ g gs
+  pub above : (h : Grant) → List·Memᴰ h gs → h ≢ g → outranks g h ≡ true
+
+module _ {gs : List Grant} (d : Distinct (map (λ g. g .number) gs)) where
+  -- of two that yield to each other one is the other
+  yields-one : (g h : Grant) → List·Memᴰ g gs → List·Memᴰ h gs → Yields g h → Yields h g → g ≡ h
+  yields-one g h m i x y = distinct-key (λ g. g .number) d g h m i (yields-both x y)
+
+  -- the one to which each of them yields
+  module _ (first : Grant) (there : List·Memᴰ first gs) (yields : (h : Grant) → List·Memᴰ h gs → Yields h first) where
+    foremost-first : (g : Grant) → Foremost g gs → first ≡ g
+    foremost-first g f = go (ℕ-discrete (first .number) (g .number))
+      where
+        go : Dec (first .number ≡ g .number) → first ≡ g
+        go (yes e) = distinct-key (λ g. g .number) d first g there (f .member) e
+        go (no n) = yields-one first g there (f .member) (outranks-yields g first (f .above first there (λ e. n (ap (λ (x : Grant). x .number) e)))) (yields g (f .member))
+
+    first-foremost : Foremost first gs
+    first-foremost = record { member = there; above = λ h m n. go h m n (outranks first h) refl }
+      where
+        go : (h : Grant) → List·Memᴰ h gs → h ≢ first → (b : Bool) → outranks first h ≡ b → b ≡ true
+        go h m n true e = refl
+        go h m n false e = absurd (n (yields-one h first m there (yields h m) (not-outranks-yields first h e)))
+
+pub foremost-decides : (gs : List Grant) → Distinct (map (λ g. g .number) gs) → (g : Grant) → Foremost g gs ↔ (decideAmong gs ≡ decisionOf (g .kind) g)
+unfolding decideAmong
+foremost-decides [] d g = (λ f. absurd (List·Memᴰ·not-nil (f .member)), λ e. absurd (decisionOf-some (g .kind) g (sym e)))
+foremost-decides (x ∷ xs) d g =
+    let first = decidingOf x xs in
+    let there = deciding-mem x xs in
+    let yields = deciding-first x xs in (
+      (λ f. ap (λ (h : Grant). decisionOf (h .kind) h) (foremost-first d first there yields g f)),
+      (λ e. subst (λ (h : Grant). Foremost h (x ∷ xs)) (decisionOf-injective (first .kind) (g .kind) first g e) (first-foremost d first there yields)),
+    )

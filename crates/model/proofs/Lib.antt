@@ -6,4 +6,5 @@ pub mod RefusalLaws
 pub mod SoundLaws
 pub mod BookLaws
 pub mod AnswerLaws
+pub mod GrantLaws
 pub mod JudgedLaws

@@ -1,14 +1,18 @@
 -- The tests of specs/Overlap are its conditions.
 --   overlapOn-iff, overlaps-iff     on one range, and on all three
+--   overlapping-iff                 so the grants that the book takes are those that overlap
 -- Assumes nothing.
 use mathlib.Core.Logic.{_↔_}
 use mathlib.Core.Bool.{_&&_}
+use mathlib.Core.List.{List, List·Memᴰ}
 use lib.Dec.{T}
-use Rattle.lists.proofs.TestLaws.{T-iff, T-and, both-le, le-both}
+use Rattle.lists.proofs.TestLaws.{T-iff, T-and, both-le, le-both, mem-keep, keep-mem}
 use Rattle.model.specs.declared.Box.{Box}
+use Rattle.model.specs.declared.Grant.{Grant}
 use Rattle.model.specs.Interval.{Interval}
 use Rattle.model.specs.Box.{staffOf, doorsOf, quartersOf}
 use Rattle.model.specs.Overlap.{OverlapOn, Overlap, overlapOn, overlaps}
+use Rattle.model.specs.Book.{overlapping}
 
 pub overlapOn-iff : (a b : Interval) → T (overlapOn a b) ↔ OverlapOn a b
 overlapOn-iff a b = (
@@ -26,4 +30,12 @@ overlaps-iff a b =
     let three = T-and (overlapOn (staffOf a) (staffOf b) && overlapOn (doorsOf a) (doorsOf b)) (overlapOn (quartersOf a) (quartersOf b)) in (
       (λ t. let r = three .0 t in let l = two .0 (r .0) in record { staff = staff .0 (l .0); doors = doors .0 (l .1); quarters = quarters .0 (r .1) }),
       (λ o. three .1 (two .1 (staff .1 (o .staff), doors .1 (o .doors)), quarters .1 (o .quarters))),
+    )
+
+pub overlapping-iff : (q : Box) (gs : List Grant) (g : Grant) → List·Memᴰ g (overlapping q gs) ↔ (List·Memᴰ g gs × Overlap (g .bounds) q)
+overlapping-iff q gs g =
+    let test = T-iff (overlaps (g .bounds) q) in
+    let same = overlaps-iff (g .bounds) q in (
+      (λ m. let kept = keep-mem (λ h. overlaps (h .bounds) q) gs g m in (kept .0, same .0 (test .1 (kept .1)))),
+      (λ h. mem-keep (λ h. overlaps (h .bounds) q) gs g (h .0) (test .0 (same .1 (h .1)))),
     )

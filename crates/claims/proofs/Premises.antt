@@ -1,0 +1,143 @@
+-- Every premise of the claims is met, by a pool of two cells and two grants: no claim is empty.
+--   grant-met, calls-met           GrantFits, CallsFit
+--   memory-met                     Memory
+--   doors-met, set-met, order-met  DoorRange, FileSet, Ordering
+--   bytes-met, accepted-met        Below, Accepted
+--   byte-met                       one byte to change: its place, its value, and that it is another
+--   list-met                       list's answer in Demand2 .lists
+--   room-met, inside-met           cells enough, and a door inside the range, in Demand3 .loads
+--   load-met, made-met             load's answer, and Made in both its cases
+-- Assumes nothing.
+use Prim.Native.Nat.{ℕ, _≤_, _<_}
+use mathlib.Core.Logic.{_≢_}
+use mathlib.Core.Path.{_≡_, refl, sym, ap, subst}
+use mathlib.Core.Bool.{true, false}
+use mathlib.Core.List.{List, [], _∷_, List·Memᴰ, List·Memᴰ·head, List·Memᴰ·tail}
+use native.Mathlib.Omega.{arith}
+use lib.Dec.{T, ltb}
+use lib.ListN.{length, getD, replicate}
+use borrow.Author.Tests.{ltb-true}
+use Rattle.lists.specs.Tests.{keep, every, any}
+use Rattle.lists.specs.Sort.{insertBy, sortBy}
+use Rattle.lists.proofs.TestLaws.{T-iff, every-all}
+use Rattle.model.specs.declared.Box.{Box}
+use Rattle.model.specs.declared.Grant.{Grant}
+use Rattle.model.specs.declared.Kind.the-variants.{Bars, Opens}
+use Rattle.model.specs.Interval.{Interval, holds}
+use Rattle.model.specs.Box.{boxValues}
+use Rattle.model.specs.Overlap.{overlaps}
+use Rattle.model.specs.Grant.{touches}
+use Rattle.model.specs.Answer.{accepted}
+use Rattle.model.specs.Refusal.{firstFault, refusing}
+use Rattle.model.specs.Arguments.{reversedBox}
+use Rattle.model.specs.Call.{Call, grant}
+use Rattle.model.specs.Values.{wordValues, byteValues, Below, GrantFits, CallFits, CallsFit}
+use Rattle.model.specs.Book.{bookGrant, bookList, bookStep}
+use Rattle.model.specs.Histories.{Told, after}
+use Rattle.grants_file.specs.Block.{sealed, headerBlock}
+use Rattle.grants_file.specs.File.{fileOf}
+use Rattle.grants_file.specs.FileSets.{Accepted, DoorRange, ascending-none, ascending-more, FileSet, Ordering}
+use Rattle.grants_file.proofs.FileLaws.{length-fileOf, fileOf-below}
+use Rattle.grants_file.proofs.VerdictLaws.{fileOf-accepted}
+use Rattle.index.specs.Calls.{listCall, wordsStep}
+use Rattle.index.specs.FileCalls.{requestOf, loadCall}
+use Rattle.index.proofs.QueryLaws.{list-refines}
+use Rattle.index.proofs.LoadLaws.{requestOf-fits}
+use Rattle.claims.specs.Claims.{Memory, wordsAfter, liveAfter, touching, Made, made-start, made-load}
+use Rattle.claims.proofs.Answers.{calls-represent}
+use Rattle.claims.proofs.Demand2.{loads}
+
+abbrev box : ℕ → ℕ → ℕ → ℕ → ℕ → ℕ → Box
+box a b c d e f =
+    record { «staff_from» = a; «staff_to» = b; «door_from» = c; «door_to» = d; «quarter_from» = e; «quarter_to» = f }
+
+-- two grants that touch the doors 40 to 50
+abbrev seven : Grant
+seven = record { number = 7; rank = 10; kind = Opens; bounds = box 100 199 1 40 32 63 }
+
+abbrev nine : Grant
+nine = record { number = 9; rank = 255; kind = Bars; bounds = box 0 65535 41 50 0 9 }
+
+abbrev grants : List Grant
+grants = seven ∷ nine ∷ []
+
+abbrev doors : Interval
+doors = record { from = 40; to = 50 }
+
+-- memory for two cells, whatever it holds
+abbrev memory : List ℕ
+memory = replicate 23 9
+
+abbrev calls : List Call
+calls = grant (requestOf seven) ∷ grant (requestOf nine) ∷ []
+
+-- what holds of each of two holds of all
+both : {A : Type 0} (P : A → Type 0) {x y : A} → P x → P y → (z : A) → List·Memᴰ z (x ∷ y ∷ []) → P z
+both P p q z (List·Memᴰ·head e) = subst P (sym e) p
+both P p q z (List·Memᴰ·tail (List·Memᴰ·head e)) = subst P (sym e) q
+
+-- a list is below a bound where the test of each is
+below-test : (n : ℕ) (xs : List ℕ) → T (every (λ x. ltb x n) xs) → Below n xs
+below-test n xs t x m = ltb-true x n (every-all (λ y. ltb y n) xs (T-iff _ .0 t) x m)
+
+pub grant-met : (g : Grant) → List·Memᴰ g grants → GrantFits g
+unfolding every
+grant-met =
+    both GrantFits
+    (record { number = omega arith; rank = omega arith; bounds = below-test wordValues (boxValues (seven .bounds)) tt })
+    (record { number = omega arith; rank = omega arith; bounds = below-test wordValues (boxValues (nine .bounds)) tt })
+
+pub calls-met : CallsFit calls
+calls-met = both CallFits (requestOf-fits (grant-met seven (List·Memᴰ·head refl))) (requestOf-fits (grant-met nine (List·Memᴰ·tail (List·Memᴰ·head refl))))
+
+pub memory-met : Memory 2 memory
+memory-met = record { some = omega arith; few = omega arith; long = refl }
+
+pub doors-met : DoorRange doors
+doors-met = record { order = omega arith; fits = omega arith }
+
+pub set-met : FileSet doors grants
+unfolding reversedBox
+set-met =
+    record {
+      doors = doors-met;
+      few = omega arith;
+      ascending = ascending-more {last = 0} {g = seven} (omega arith) (ascending-more {last = 7} {g = nine} (omega arith) ascending-none);
+      each = λ g m.
+          record {
+            fits = grant-met g m;
+            order = both (λ x. reversedBox (x .bounds) ≡ false) refl refl g m;
+            touching = both (λ x. touches doors x ≡ true) refl refl g m;
+          };
+    }
+
+pub order-met : Ordering grants (nine ∷ seven ∷ [])
+unfolding sortBy insertBy
+order-met = refl
+
+pub bytes-met : Below byteValues (fileOf doors grants)
+bytes-met = fileOf-below doors grants set-met
+
+pub accepted-met : Accepted (fileOf doors grants)
+accepted-met = fileOf-accepted doors grants set-met
+
+pub byte-met : (0 < length (fileOf doors grants)) × (0 < byteValues) × (0 ≢ getD (fileOf doors grants) 0 0)
+unfolding fileOf headerBlock sealed
+byte-met = (omega (arith, length-fileOf doors grants), omega arith, λ e. omega arith)
+
+pub list-met : listCall (wordsAfter memory calls) (box 0 65535 1 40 0 65535) (0 ∷ []) .answer ≡ accepted (1 ∷ [])
+unfolding after bookStep bookGrant bookList refusing firstFault insertBy keep any overlaps reversedBox
+list-met = ap (λ (t : Told). t .answer) (list-refines (calls-represent memory-met calls calls-met) (box 0 65535 1 40 0 65535) (0 ∷ []) .same)
+
+pub room-met : length (touching doors (liveAfter 2 calls)) ≤ 2
+unfolding after bookStep bookGrant refusing firstFault insertBy keep any reversedBox
+room-met = omega arith
+
+pub inside-met : T (holds doors 45)
+inside-met = tt
+
+pub load-met : loadCall memory (fileOf doors grants) .answer ≡ accepted []
+load-met = loads doors grants 2 memory set-met memory-met (omega arith) .0
+
+pub made-met : Made 2 (wordsAfter memory calls) × Made 2 (after wordsStep (loadCall memory (fileOf doors grants) .state) calls)
+made-met = (made-start memory-met calls-met, made-load memory-met bytes-met load-met calls-met)
