@@ -18,7 +18,7 @@ use Rattle.index.specs.FileCalls.{loadCall}
 use Rattle.index.proofs.WriteLaws.{touching-set}
 use Rattle.index.proofs.LoadLaws.{load-set, load-represents}
 use Rattle.index.proofs.AlikeLaws.{list-alike, decide-alike}
-use Rattle.claims.specs.Claims.{Memory, wordsAfter, liveAfter, touching, AnswerAlike, KeepsBook}
+use Rattle.claims.specs.Claims.{Memory, wordsAfter, liveAfter, touching, AnswerAlike, Demand3}
 use Rattle.claims.proofs.Answers.{memory-sized, started, calls-answer, calls-represent, calls-hold, calls-write}
 
 module _ {c : ℕ} {memory : List ℕ} (m : Memory c memory) (calls : List Call) (fit : CallsFit calls) (doors : Interval) (range : DoorRange doors) where
@@ -35,8 +35,8 @@ module _ {c : ℕ} {memory : List ℕ} (m : Memory c memory) (calls : List Call)
         record { lists = list-alike h k doors refl; decisions = decide-alike h k doors refl },
       )
 
--- Demand3, written out: the claim is a definition that stays shut outside its file
-pub demand3 : (c : ℕ) (memory : List ℕ) (calls : List Call) → Memory c memory → CallsFit calls → KeepsBook c memory calls
+pub demand3 : Demand3
+unfolding Demand3
 demand3 c memory calls m fit =
     record {
       started = started m;

@@ -94,7 +94,7 @@ pub record KeepsBook (c : ℕ) (memory : List ℕ) (calls : List Call) : Type 0 
       → (loadCall other (fileOf doors (touching doors (liveAfter c calls))) .answer ≡ accepted [])
       × AnswerAlike doors (wordsAfter memory calls) (loadCall other (fileOf doors (touching doors (liveAfter c calls))) .state)
 
-pub Demand3 : Type 0
+unfoldable pub Demand3 : Type 0
 Demand3 = (c : ℕ) (memory : List ℕ) (calls : List Call) → Memory c memory → CallsFit calls → KeepsBook c memory calls
 
 -- what list wrote is the numbers of the overlapping grants, each above the one before
