@@ -4,12 +4,14 @@
     scan.py < slips > answers
 
 Reads slips from standard input, one to a line, and prints one line for each: the plain book with C = 2048, lending list 2048 numbers.
-Document 01 leaves two things open, decided here as in the program: leading zeros are allowed, and a last line without a newline is a line.
+Document 01 leaves some things open, decided here as in the program: leading zeros are allowed, a last line without a newline is a line,
+and a line of more than 4,096 bytes is of another form, since no call needs as many.
 """
 import sys
 
 CAPACITY = 2048
 LENT = 2048
+LONGEST = 4096
 
 WORD = 65535
 BYTE = 255
@@ -36,6 +38,8 @@ def number(field, highest):
 
 def read(line):
     """The letter and the numbers of a slip, or None for a line of another form."""
+    if len(line) > LONGEST:
+        return None
     letter, *fields = line.split(b" ")
     form = FORMS.get(letter)
     if form is None or len(fields) != len(form):
