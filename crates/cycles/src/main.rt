@@ -7,16 +7,16 @@ use slip_text::printing::LINE_BYTES;
 // The words of a pool of 2,048 cells.
 const WORDS: usize = 20483;
 
-// Links the cell, which begins at a place, to two cells.
-fn link(pool: &mut [u16], at: usize, left: u16, right: u16) {
-    if pool.len() <= at {
-        return;
+fn put(pool: &mut [u16], at: usize, word: u16) {
+    if at < pool.len() {
+        pool[at] = word;
     }
-    pool[at] = left;
-    if pool.len() - 1 <= at {
-        return;
-    }
-    pool[at + 1] = right;
+}
+
+// Links a cell, whose two links lie at these places, to two cells.
+fn link(pool: &mut [u16], left: usize, right: usize, left_cell: u16, right_cell: u16) {
+    put(pool, left, left_cell);
+    put(pool, right, right_cell);
 }
 
 // Sets every word to 1, and so every link.
@@ -30,11 +30,9 @@ fn every_link_one(pool: &mut [u16]) {
 
 // Sets the header: how many cells there are, the root, the free head.
 fn header(pool: &mut [u16], cells: u16) {
-    if 2 < pool.len() {
-        pool[0] = cells;
-        pool[1] = 1;
-        pool[2] = 1;
-    }
+    put(pool, 0, cells);
+    put(pool, 1, 1);
+    put(pool, 2, 1);
 }
 
 fn call(pool: &mut [u16], lent: &mut [u16], line: &[u8]) {
@@ -61,14 +59,14 @@ fn main() {
 
     let mut three = [0u16; 33];
     header(&mut three, 3);
-    link(&mut three, 3, 2, 3);
-    link(&mut three, 13, 3, 1);
-    link(&mut three, 23, 1, 2);
+    link(&mut three, 3, 4, 2, 3);
+    link(&mut three, 13, 14, 3, 1);
+    link(&mut three, 23, 24, 1, 2);
     each_call(&mut three);
 
     let mut two = [0u16; WORDS];
     header(&mut two, 2048);
-    link(&mut two, 3, 2, 2);
-    link(&mut two, 13, 1, 1);
+    link(&mut two, 3, 4, 2, 2);
+    link(&mut two, 13, 14, 1, 1);
     each_call(&mut two);
 }
