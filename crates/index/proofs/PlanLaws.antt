@@ -1,5 +1,5 @@
 -- How grant, revoke and start come to their answer, test by test.
---   pool-refused, pool-taken, length-refused, length-taken       what a capacity says of fault 1
+--   sized                         a pool that was taken has the size of its cells
 --   grant-pool, grant-zero, grant-kind, grant-reversed, grant-broken, grant-live, grant-absent   grant's line, in its order
 --   slot-way, slot-lost, free-above, free-none, free-next-above, free-planned   the way down and the free head
 --   plan-inserts, grant-refused, grant-done     what grant stores and leaves
@@ -27,9 +27,9 @@ use Rattle.model.specs.Arguments.{reversedBox}
 use Rattle.model.specs.Call.{Request, requested}
 use Rattle.geometry.specs.Levels.{levels}
 use Rattle.geometry.specs.Point.{pointOf}
-use Rattle.pool.specs.Capacity.{Sized, capacityOf, poolLength, wrongLength, wrongPool, lengthCapacity, poolCapacity}
+use Rattle.pool.specs.Capacity.{Sized, capacityOf, poolLength, wrongLength, wrongPool}
 use Rattle.pool.specs.Fresh.{freshPool}
-use Rattle.pool.proofs.CapacityLaws.{capacityOf-poolLength, wrongLength-iff, wrongPool-iff}
+use Rattle.pool.proofs.CapacityLaws.{capacityOf-poolLength}
 use Rattle.adt.specs.Search.{Spot, broken, going}
 use Rattle.adt.specs.Insert.{blankAt, wayDown, descend, freeHead, nextFree, freeBroken, inserted}
 use Rattle.adt.specs.Insert as insert
@@ -48,47 +48,12 @@ use Rattle.index.specs.Order.{startOrder, grantOrder, revokeOrder}
 use Rattle.index.specs.Calls.{startCall, grantCall, revokeCall}
 use Rattle.index.specs.Contract.{Leaves}
 use Rattle.index.specs.NumberSearch.{FirstAt, NumberFound}
+use Rattle.index.proofs.RefusalSteps.{Taken}
 use Rattle.index.specs.Plans.{grantLine, revokeLine, slotOrder, Insertable, InsertionPlanned, Found, RemovalPlanned}
 
--- a capacity that a test kept or set to 0
-kept : (b : Bool) {c k : ℕ} → c ≡ cond b 0 k → ¬ (c ≡ 0) → (b ≡ false) × (k ≡ c)
-kept true e n = absurd (n e)
-kept false e n = (refl, sym e)
-
-module _ (w : List ℕ) {c : ℕ} where
-  pub pool-taken : c ≡ poolCapacity w → ¬ (c ≡ 0) → (wrongPool w ≡ false) × Sized w c
-  pool-taken e n =
-      let k = kept (wrongPool w) e n in
-      let s = wrongPool-iff w .0 (k .0) in
-      let same : s .0 ≡ c = sym (capacityOf-poolLength w (s .0) (s .1 .long)) ∙ k .1 in
-      (k .0, subst (Sized w) same (s .1))
-
-  pub pool-refused : c ≡ poolCapacity w → c ≡ 0 → wrongPool w ≡ true
-  pool-refused e z = go (wrongPool w) refl
-    where
-      go : (b : Bool) → wrongPool w ≡ b → wrongPool w ≡ true
-      go true f = f
-      go false f =
-          let s = wrongPool-iff w .0 f in
-          let same : s .0 ≡ 0 = sym (capacityOf-poolLength w (s .0) (s .1 .long)) ∙ sym (e ∙ rw f) ∙ z in
-          absurd (omega (arith, s .1 .some))
-
-  pub length-taken : c ≡ lengthCapacity w → ¬ (c ≡ 0) → (wrongLength w ≡ false) × Sized w c
-  length-taken e n =
-      let k = kept (wrongLength w) e n in
-      let s = wrongLength-iff w .0 (k .0) in
-      let same : s .0 ≡ c = sym (capacityOf-poolLength w (s .0) (s .1 .long)) ∙ k .1 in
-      (k .0, subst (Sized w) same (s .1))
-
-  pub length-refused : c ≡ lengthCapacity w → c ≡ 0 → wrongLength w ≡ true
-  length-refused e z = go (wrongLength w) refl
-    where
-      go : (b : Bool) → wrongLength w ≡ b → wrongLength w ≡ true
-      go true f = f
-      go false f =
-          let s = wrongLength-iff w .0 f in
-          let same : s .0 ≡ 0 = sym (capacityOf-poolLength w (s .0) (s .1 .long)) ∙ sym (e ∙ rw f) ∙ z in
-          absurd (omega (arith, s .1 .some))
+-- a pool that was taken has the size of its cells
+pub sized : {wrong : Bool} {w : List ℕ} {c : ℕ} → Taken wrong w c → Sized w c
+sized t = record { some = t .some; few = t .few; long = t .long }
 
 -- grant's line, as far as its tests have come
 module _ (w : List ℕ) (r : Request) where

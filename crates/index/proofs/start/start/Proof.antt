@@ -1,5 +1,6 @@
 -- `start::start` meets its contract. Assumes nothing.
-use Rattle.index.proofs.PlanLaws.{length-refused, length-taken, start-refused, start-done}
+use Rattle.index.proofs.RefusalSteps.{length-refused, length-taken}
+use Rattle.index.proofs.PlanLaws.{sized, start-refused, start-done}
 use native.Mathlib.Omega.{arith}
 use borrow.Author.Needs.{needs}
 use Rattle.index.proofs.start.start.Statement.{statement}
@@ -15,13 +16,13 @@ returns : tie.Need-returns
 returns c = start-refused _ (length-refused _ (c .before .length-capacity .ensures) (c .if1 .taken))
 
 make-fresh-requires : tie.Need-make-fresh-requires
-make-fresh-requires c κs = let t = length-taken (c .before .before .before .before .before .args .pool .now) (c .before .before .length-capacity .ensures) (c .before .if1 .left) .1 in (t .some, t .few, t .long)
+make-fresh-requires c κs = let t = length-taken (c .before .before .before .before .before .args .pool .now) (c .before .before .length-capacity .ensures) (c .before .if1 .left) in (t .some, t .few, t .long)
 
 same-length-2 : tie.Need-same-length-2
 same-length-2 c = search needs
 
 returns-2 : tie.Need-returns-2
-returns-2 c = let t = length-taken (c .before .before .before .before .before .before .before .before .args .pool .now) (c .before .before .before .before .before .length-capacity .ensures) (c .before .before .before .before .if1 .left) in start-done _ (t .0) (t .1) (c .before .before .make-fresh .ensures)
+returns-2 c = let t = length-taken (c .before .before .before .before .before .before .before .before .args .pool .now) (c .before .before .before .before .before .length-capacity .ensures) (c .before .before .before .before .if1 .left) in start-done _ (t .right) (sized t) (c .before .before .make-fresh .ensures)
 
 pub start-spec : {M : Type 1} → statement M
 start-spec =
