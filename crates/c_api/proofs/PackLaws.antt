@@ -1,10 +1,11 @@
 -- A packed answer, from what the entry points and the packing ensure.
+--   number-word, a-word, b-word       a word's parts read back, where they fit their bits
 --   refusal-list, refusal-other       a refusal's value is a with fault 8, b with any other
 --   packs-pool, packs-lent, packs-out a call's answer, packed, with what it leaves
 --   place-modulo                      where a block's records start, modulo what b holds, from the block's number modulo the same
 --   part-none, part-some              the packed part of a block: empty, or not
 -- Assumes nothing.
-use Prim.Native.Nat.{ℕ, _+_, _*_, _%_}
+use Prim.Native.Nat.{ℕ, _+_, _*_, _/_, _%_, _<_}
 use mathlib.Core.Path.{_≡_, sym, ap, subst, _∙_}
 use mathlib.Core.List.{List}
 use native.Mathlib.Omega.{arith}
@@ -17,6 +18,19 @@ use Rattle.grants_file.specs.BlockRead.{partOf}
 use Rattle.index.specs.Contract.{Leaves, Lends}
 use Rattle.c_api.specs.Pack.{word, firstOf, packRefusal, pack, packPart}
 use Rattle.c_api.specs.Contract.{PacksPool, PacksLent, PacksOut}
+
+module _ (number a b : ℕ) (n : number < 256) (k : a < 16777216) (m : b < 4294967296) where
+  pub number-word : word number a b % 256 ≡ number
+  unfolding word
+  number-word = omega arith
+
+  pub a-word : word number a b / 256 % 16777216 ≡ a
+  unfolding word
+  a-word = omega arith
+
+  pub b-word : word number a b / 4294967296 ≡ b
+  unfolding word
+  b-word = omega arith
 
 module _ (number : ℕ) (values : List ℕ) {n v r : ℕ} (e : n ≡ number) (f : v ≡ firstOf values) where
   pub refusal-list : n ≡ 8 → r ≡ word n v 0 → r ≡ packRefusal number values
