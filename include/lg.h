@@ -67,7 +67,7 @@ uint64_t lg_list(const uint16_t *pool, size_t pool_words, uint16_t staff_from, u
  * out stays. The pool stays. */
 uint64_t lg_decide(const uint16_t *pool, size_t pool_words, uint16_t staff, uint16_t door, uint16_t quarter, uint16_t out[10]);
 
-/* Accepted: a = live grants, b = free cells. Refuses 1 and 9, in this order. Leaves: everything as it was. */
+/* Accepted: a = live grants, b = the capacity less a. Refuses 1 and 9, in this order. Leaves: everything as it was. */
 uint64_t lg_count(const uint16_t *pool, size_t pool_words);
 
 /* The verdict on one block of a file, judged alone.
