@@ -1,0 +1,62 @@
+-- A packed answer, from what the entry points and the packing ensure.
+--   number-word, a-word, b-word       a word's parts read back, where they fit their bits
+--   refusal-list, refusal-other       a refusal's value is a with fault 8, b with any other
+--   packs-pool, packs-lent, packs-out a call's answer, packed, with what it leaves
+--   place-modulo                      where a block's records start, modulo what b holds, from the block's number modulo the same
+--   part-none, part-some              the packed part of a block: empty, or not
+-- Assumes nothing.
+use Prim.Native.Nat.{ℕ, _+_, _*_, _/_, _%_, _<_}
+use mathlib.Core.Path.{_≡_, sym, ap, subst, _∙_}
+use mathlib.Core.List.{List}
+use native.Mathlib.Omega.{arith}
+use lib.ListN.{length}
+use borrow.Author.Tests.{eq-eqb, ne-eqb}
+use Rattle.model.specs.Answer.{Answer}
+use Rattle.model.specs.Refusal.{Step}
+use Rattle.grants_file.specs.Block.{blockBytes, recordsPlace}
+use Rattle.grants_file.specs.BlockRead.{partOf}
+use Rattle.index.specs.Contract.{Leaves, Lends}
+use Rattle.c_api.specs.Pack.{word, firstOf, packRefusal, pack, packPart}
+use Rattle.c_api.specs.Contract.{PacksPool, PacksLent, PacksOut}
+
+module _ (number a b : ℕ) (n : number < 256) (k : a < 16777216) (m : b < 4294967296) where
+  pub number-word : word number a b % 256 ≡ number
+  unfolding word
+  number-word = omega arith
+
+  pub a-word : word number a b / 256 % 16777216 ≡ a
+  unfolding word
+  a-word = omega arith
+
+  pub b-word : word number a b / 4294967296 ≡ b
+  unfolding word
+  b-word = omega arith
+
+module _ (number : ℕ) (values : List ℕ) {n v r : ℕ} (e : n ≡ number) (f : v ≡ firstOf values) where
+  pub refusal-list : n ≡ 8 → r ≡ word n v 0 → r ≡ packRefusal number values
+  refusal-list is p = rw (← e, ← f, eq-eqb n 8 is) p
+
+  pub refusal-other : (n ≡ 8 → ⊥) → r ≡ word n 0 v → r ≡ packRefusal number values
+  refusal-other other p = rw (← e, ← f, ne-eqb n 8 other) p
+
+module _ {a : Answer} {r : ℕ} {memory : List ℕ} {s : Step (List ℕ)} (p : r ≡ pack a) where
+  pub packs-pool : Leaves a memory s → PacksPool r memory s
+  packs-pool d = record { answered = p ∙ ap pack (d .answered); left = d .left }
+
+  pub packs-lent : Lends a memory s → PacksLent r memory s
+  packs-lent d = record { answered = p ∙ ap pack (d .answered); left = d .left }
+
+pub packs-out : {a b : Answer} {r : ℕ} {out before : List ℕ} → a ≡ b → PacksOut r out before a → PacksOut r out before b
+packs-out e p = subst (PacksOut _ _ _) e p
+
+pub place-modulo : (i : ℕ) → (blockBytes * (i % 4294967296) + recordsPlace) % 4294967296 ≡ (blockBytes * i + recordsPlace) % 4294967296
+place-modulo i = omega arith
+
+module _ (f : List ℕ) (i : ℕ) {part : List ℕ} {r : ℕ} (e : part ≡ partOf f i) where
+  pub part-none : length part ≡ 0 → r ≡ word 0 0 0 → r ≡ packPart f i
+  unfolding packPart
+  part-none z p = rw (← e, eq-eqb (length part) 0 z) p
+
+  pub part-some : (length part ≡ 0 → ⊥) → r ≡ word 0 (length part) (blockBytes * (i % 4294967296) + recordsPlace) → r ≡ packPart f i
+  unfolding packPart word
+  part-some n p = rw (← e, ne-eqb (length part) 0 n, ← place-modulo i) p

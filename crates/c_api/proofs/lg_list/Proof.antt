@@ -1,0 +1,20 @@
+-- `lg_list` meets its contract: the answer of `list`, packed. Assumes nothing.
+use Rattle.c_api.proofs.PackLaws.{packs-lent}
+use borrow.Author.Needs.{needs}
+use Rattle.c_api.proofs.lg_list.Statement.{statement}
+use Rattle.c_api.proofs.lg_list.Tie as tie
+
+list-requires : tie.Need-list-requires
+list-requires c κs = search needs
+
+pack-listed-requires : tie.Need-pack-listed-requires
+pack-listed-requires c κs = search needs
+
+same-length : tie.Need-same-length
+same-length c = search needs
+
+returns : tie.Need-returns
+returns c = packs-lent (c .pack-listed .ensures) (c .before .before .before .list .ensures)
+
+pub lg-list-spec : {M : Type 1} → statement M
+lg-list-spec = tie.close (tie.spec list-requires pack-listed-requires same-length returns)

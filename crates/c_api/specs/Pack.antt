@@ -1,0 +1,60 @@
+-- An answer of document 01's numbers as the one word that a C call returns.
+--   word number a b     bits 0 to 7 the fault's number (0: accepted), bits 8 to 31 a, bits 32 to 63 b
+--   packRefusal n vs    a refusal: fault 8's value (the count needed) is a, any other fault's value is b
+--   pack answer         an accepted answer's first value is a: list, decide; of start, grant, revoke and the verdict on a block nothing
+--   packPair answer     its first value is a, its second is b: count
+--   packPart f i        the part of block i's records: a its length, b where it starts in the file; both 0 where the part is empty
+--   boxOf, requestOf    the arguments of list and grant as document 01's box and request
+-- A value is taken modulo what its bits hold. The values of every call fit them: counts are at most 2,048, lengths and places in a file
+-- at most 34,816, and blocks below 68.
+-- Assumes nothing: these are definitions.
+use Prim.Native.Nat.{ℕ, _+_, _*_, _%_}
+use mathlib.Core.Bool.{cond}
+use mathlib.Core.List.{List}
+use lib.Dec.{eqb}
+use lib.ListN.{length, getD}
+use Rattle.model.specs.declared.Box.{Box}
+use Rattle.model.specs.Answer.{Answer, accepted, refused}
+use Rattle.model.specs.Call.{Request}
+use Rattle.grants_file.specs.Block.{blockBytes, recordsPlace}
+use Rattle.grants_file.specs.BlockRead.{partOf}
+
+unfoldable pub word : ℕ → ℕ → ℕ → ℕ
+word number a b = number % 256 + 256 * (a % 16777216) + 4294967296 * (b % 4294967296)
+
+-- the first and the second value; 0 where there is none
+abbrev pub firstOf : List ℕ → ℕ
+firstOf values = getD values 0 0
+
+abbrev pub secondOf : List ℕ → ℕ
+secondOf values = getD values 1 0
+
+abbrev pub packRefusal : ℕ → List ℕ → ℕ
+packRefusal number values = cond (eqb number 8) (word number (firstOf values) 0) (word number 0 (firstOf values))
+
+abbrev pub pack : Answer → ℕ
+pack (accepted values) = word 0 (firstOf values) 0
+pack (refused number values) = packRefusal number values
+
+abbrev pub packPair : Answer → ℕ
+packPair (accepted values) = word 0 (firstOf values) (secondOf values)
+packPair (refused number values) = packRefusal number values
+
+unfoldable pub packPart : List ℕ → ℕ → ℕ
+packPart f i =
+    let size = length (partOf f i) in
+    cond (eqb size 0) (word 0 0 0) (word 0 size (blockBytes * i + recordsPlace))
+
+abbrev pub boxOf : ℕ → ℕ → ℕ → ℕ → ℕ → ℕ → Box
+boxOf staffFrom staffTo doorFrom doorTo quarterFrom quarterTo =
+    record {
+      «staff_from» = staffFrom;
+      «staff_to» = staffTo;
+      «door_from» = doorFrom;
+      «door_to» = doorTo;
+      «quarter_from» = quarterFrom;
+      «quarter_to» = quarterTo;
+    }
+
+abbrev pub requestOf : ℕ → ℕ → ℕ → Box → Request
+requestOf number rank kind bounds = record { number = number; rank = rank; kind = kind; bounds = bounds }

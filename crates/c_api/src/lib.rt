@@ -1,0 +1,137 @@
+// The C interface (include/lg.h): each call is the entry point of its name, and returns its answer packed into one word (specs/Pack).
+// Each is safe on any memory of the lengths that it is given. A refusal leaves everything as it was.
+ghost use mathlib.Core.Path.{_≡_};
+ghost use Rattle.index.specs.Calls.{startCall, grantCall, revokeCall, listCall, decideCall, countCall};
+ghost use Rattle.grants_file.specs.Answers.{readAnswer};
+ghost use Rattle.c_api.specs.Pack.{pack, packPair, packPart, boxOf, requestOf};
+ghost use Rattle.c_api.specs.Contract.{PacksPool, PacksLent, PacksOut};
+use crate::pack::pack_counted;
+use crate::pack::pack_decision;
+use crate::pack::pack_listed;
+use crate::pack::pack_outcome;
+use crate::pack::word;
+use grants_file::block::BLOCK_BYTES;
+use grants_file::block::RECORDS_PLACE;
+use grants_file::block_read::block_part;
+use grants_file::block_read::block_verdict;
+use index::count::count;
+use index::decide::decide;
+use index::grant::grant;
+use index::revoke::revoke;
+use index::start::start;
+use model::Box;
+
+mod pack;
+
+// Refuses 1.
+#[no_mangle]
+pub extern "C" fn lg_start(pool: &mut [u16]) -> u64
+    ensures { λ r. ⌜ PacksPool r (now (pool .exit)) (startCall (now (pool .entry))) ⌝ }
+{
+    pack_outcome(start(pool))
+}
+
+// Refuses 1, 3, 4, 2, 9, 5 and 6, in this order.
+#[no_mangle]
+pub extern "C" fn lg_grant(
+    pool: &mut [u16],
+    number: u16,
+    rank: u8,
+    kind: u8,
+    staff_from: u16,
+    staff_to: u16,
+    door_from: u16,
+    door_to: u16,
+    quarter_from: u16,
+    quarter_to: u16,
+) -> u64
+    ensures { λ r. ⌜ PacksPool r (now (pool .exit)) (grantCall (now (pool .entry)) (requestOf number rank kind (boxOf «staff_from» «staff_to» «door_from» «door_to» «quarter_from» «quarter_to»))) ⌝ }
+{
+    let bounds = Box {
+        staff_from,
+        staff_to,
+        door_from,
+        door_to,
+        quarter_from,
+        quarter_to,
+    };
+    pack_outcome(grant(pool, number, rank, kind, bounds))
+}
+
+// Refuses 1, 3, 9 and 7, in this order.
+#[no_mangle]
+pub extern "C" fn lg_revoke(pool: &mut [u16], number: u16) -> u64
+    ensures { λ r. ⌜ PacksPool r (now (pool .exit)) (revokeCall (now (pool .entry)) number) ⌝ }
+{
+    pack_outcome(revoke(pool, number))
+}
+
+// Refuses 1, 2, 9 and 8, in this order. Elements past the numbers stay.
+#[no_mangle]
+pub extern "C" fn lg_list(
+    pool: &[u16],
+    staff_from: u16,
+    staff_to: u16,
+    door_from: u16,
+    door_to: u16,
+    quarter_from: u16,
+    quarter_to: u16,
+    list: &mut [u16],
+) -> u64
+    ensures { λ r. ⌜ PacksLent r (now (list .exit)) (listCall (now (pool .entry)) (boxOf «staff_from» «staff_to» «door_from» «door_to» «quarter_from» «quarter_to») (now (list .entry))) ⌝ }
+{
+    let bounds = Box {
+        staff_from,
+        staff_to,
+        door_from,
+        door_to,
+        quarter_from,
+        quarter_to,
+    };
+    pack_listed(index::list::list(pool, bounds, list))
+}
+
+// Refuses 1 and 9, in this order. `out` stays as it was unless the answer is opens or barred.
+#[no_mangle]
+pub extern "C" fn lg_decide(
+    pool: &[u16],
+    staff: u16,
+    door: u16,
+    quarter: u16,
+    out: &mut [u16; 10],
+) -> u64
+    ensures { λ r. ⌜ PacksOut r (now (out .exit)) (now (out .entry)) (decideCall (now (pool .entry)) staff door quarter .answer) ⌝ }
+{
+    pack_decision(decide(pool, staff, door, quarter), out)
+}
+
+// Refuses 1 and 9, in this order.
+#[no_mangle]
+pub extern "C" fn lg_count(pool: &[u16]) -> u64
+    ensures { λ r. ⌜ r ≡ packPair (countCall (now (pool .entry)) .answer) ⌝ }
+{
+    pack_counted(count(pool))
+}
+
+// The verdict on one block: refuses 10, 12 and 11, in this order.
+#[no_mangle]
+pub extern "C" fn lg_block(file: &[u8], block: u64) -> u64
+    ensures { λ r. ⌜ r ≡ pack (readAnswer (now (file .entry)) block) ⌝ }
+{
+    pack_outcome(block_verdict(file, block))
+}
+
+// The part of the file that an accepted block's records occupy; refuses nothing.
+#[no_mangle]
+pub extern "C" fn lg_block_part(file: &[u8], block: u64) -> u64
+    ensures { λ r. ⌜ r ≡ packPart (now (file .entry)) block ⌝ }
+{
+    let part = block_part(file, block);
+    let size = part.len();
+    if size == 0 {
+        return word(0, 0, 0);
+    }
+    // A block number past what `b` holds is in no file; its remainder keeps the product in range.
+    let start = BLOCK_BYTES as u64 * (block % 4294967296) + RECORDS_PLACE as u64;
+    word(0, size as u64, start)
+}

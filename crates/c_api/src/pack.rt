@@ -1,0 +1,152 @@
+// The packing of an answer into one word (specs/Pack).
+ghost use mathlib.Core.Path.{_≡_};
+ghost use mathlib.Core.List.{[], _∷_, _++_};
+ghost use Rattle.model.specs.Kind.{kindNumber};
+ghost use Rattle.model.specs.Grant.{grantValues};
+ghost use Rattle.model.specs.Fault.{faultNumber, faultValues};
+ghost use Rattle.model.specs.Answer.{outcomeAnswer, listedAnswer, decisionAnswer, countedAnswer};
+ghost use Rattle.c_api.specs.Pack.{word, firstOf, packRefusal, pack, packPair};
+ghost use Rattle.c_api.specs.Contract.{PacksOut};
+use model::Counted;
+use model::Decision;
+use model::Fault;
+use model::Grant;
+use model::Kind;
+use model::Listed;
+use model::Outcome;
+
+// Bits 0 to 7 the number, 8 to 31 `a`, 32 to 63 `b`.
+pub fn word(number: u64, a: u64, b: u64) -> u64
+    ensures { λ r. ⌜ r ≡ word number a b ⌝ }
+{
+    number % 256 + 256 * (a % 16777216) + 4294967296 * (b % 4294967296)
+}
+
+// Document 01's number of a fault.
+fn fault_number(fault: Fault) -> u64
+    ensures { λ r. ⌜ r ≡ faultNumber fault ⌝ }
+{
+    match fault {
+        Fault::BadPool => 1,
+        Fault::Reversed => 2,
+        Fault::ZeroNumber => 3,
+        Fault::UnknownKind => 4,
+        Fault::AlreadyLive => 5,
+        Fault::Full => 6,
+        Fault::NotLive => 7,
+        Fault::ListTooShort { needed: _ } => 8,
+        Fault::BrokenLinks => 9,
+        Fault::BadLength => 10,
+        Fault::BadLayout { block: _ } => 11,
+        Fault::BadChecksum { block: _ } => 12,
+        Fault::BadRecord { block: _ } => 13,
+        Fault::BufferTooShort { needed: _ } => 14,
+    }
+}
+
+// The value that it returns beside the number; 0 where there is none.
+fn fault_value(fault: Fault) -> u64
+    ensures { λ r. ⌜ r ≡ firstOf (faultValues fault) ⌝ }
+{
+    match fault {
+        Fault::BadPool => 0,
+        Fault::Reversed => 0,
+        Fault::ZeroNumber => 0,
+        Fault::UnknownKind => 0,
+        Fault::AlreadyLive => 0,
+        Fault::Full => 0,
+        Fault::NotLive => 0,
+        Fault::ListTooShort { needed } => needed as u64,
+        Fault::BrokenLinks => 0,
+        Fault::BadLength => 0,
+        Fault::BadLayout { block } => block as u64,
+        Fault::BadChecksum { block } => block as u64,
+        Fault::BadRecord { block } => block as u64,
+        Fault::BufferTooShort { needed } => needed as u64,
+    }
+}
+
+fn pack_fault(fault: Fault) -> u64
+    ensures { λ r. ⌜ r ≡ packRefusal (faultNumber fault) (faultValues fault) ⌝ }
+{
+    let number = fault_number(fault);
+    let value = fault_value(fault);
+    if number == 8 {
+        return word(number, value, 0);
+    }
+    word(number, 0, value)
+}
+
+pub fn pack_outcome(outcome: Outcome) -> u64
+    ensures { λ r. ⌜ r ≡ pack (outcomeAnswer outcome) ⌝ }
+{
+    match outcome {
+        Outcome::Done => word(0, 0, 0),
+        Outcome::Refused(fault) => pack_fault(fault),
+    }
+}
+
+pub fn pack_listed(listed: Listed) -> u64
+    ensures { λ r. ⌜ r ≡ pack (listedAnswer listed) ⌝ }
+{
+    match listed {
+        Listed::Count(count) => word(0, count as u64, 0),
+        Listed::Refused(fault) => pack_fault(fault),
+    }
+}
+
+pub fn pack_counted(counted: Counted) -> u64
+    ensures { λ r. ⌜ r ≡ packPair (countedAnswer counted) ⌝ }
+{
+    match counted {
+        Counted::Cells { live, free } => word(0, live as u64, free as u64),
+        Counted::Refused(fault) => pack_fault(fault),
+    }
+}
+
+fn kind_number(kind: Kind) -> u16
+    ensures { λ r. ⌜ r ≡ kindNumber kind ⌝ }
+{
+    match kind {
+        Kind::Bars => 0,
+        Kind::Opens => 1,
+    }
+}
+
+// The whole grant, and 0 behind it.
+fn words_of(g: Grant) -> [u16; 10]
+    ensures { λ r. ⌜ r ≡ grantValues g ++ (0 ∷ []) ⌝ }
+{
+    let b = g.bounds;
+    let kind = g.kind;
+    [
+        g.number,
+        g.rank as u16,
+        kind_number(kind),
+        b.staff_from,
+        b.staff_to,
+        b.door_from,
+        b.door_to,
+        b.quarter_from,
+        b.quarter_to,
+        0,
+    ]
+}
+
+// Opens and barred leave the whole grant in `out`; none and a refusal leave it as it was.
+pub fn pack_decision(decision: Decision, out: &mut [u16; 10]) -> u64
+    ensures { λ r. ⌜ PacksOut r (now (out .exit)) (now (out .entry)) (decisionAnswer decision) ⌝ }
+{
+    match decision {
+        Decision::None => word(0, 0, 0),
+        Decision::Opens(g) => {
+            *out = words_of(g);
+            word(0, 1, 0)
+        }
+        Decision::Barred(g) => {
+            *out = words_of(g);
+            word(0, 2, 0)
+        }
+        Decision::Refused(fault) => pack_fault(fault),
+    }
+}

@@ -1,0 +1,86 @@
+/* The grant index for C: each call is the proved entry point of its name (document 01, "The plain book", "The grants file" and "Faults").
+ *
+ * Link with libc_api.a.
+ *
+ * A pool is `pool_words` words and nothing outside them. A file is `file_bytes` bytes. Lengths are in elements. Each pointer must be
+ * valid for its length and aligned for its type, and memory that a call may change must not overlap the call's other memory. Every
+ * call is safe on any contents: a pool that no call made is refused (1, 9) or answered, and never followed outside its words.
+ *
+ * Every call returns one word:
+ *
+ *     bits 0 to 7     the fault's number in document 01's table; 0: accepted
+ *     bits 8 to 31    a
+ *     bits 32 to 63   b
+ *
+ * a and b are 0 where a call below does not name them. A refused call leaves all memory as it was.
+ *
+ *      1  not a pool: its length is no pool's, or its first word is not its capacity (lg_start asks only for the length)
+ *      2  a range of the box ends before it starts
+ *      3  the number is 0
+ *      4  the kind is above 1
+ *      5  the number is already live
+ *      6  no cell is free
+ *      7  the number is not live
+ *      8  the list is too short; a = count needed
+ *      9  the pool's links are broken: one leads outside the cells, too deep, or to more cells than there are
+ *     10  the file is not 1 to 68 whole blocks, or the block is not in it
+ *     11  a block's mark, number, record count or fill is wrong; b = the block
+ *     12  a block's check is wrong; b = the block
+ */
+#ifndef LG_H
+#define LG_H
+
+#include <stddef.h>
+#include <stdint.h>
+
+#ifdef __cplusplus
+extern "C" {
+#endif
+
+#define LG_FAULT(word) ((unsigned)((word) & 0xFFu))
+#define LG_A(word) ((uint32_t)(((word) >> 8) & 0xFFFFFFu))
+#define LG_B(word) ((uint32_t)((word) >> 32))
+
+/* Makes an empty index in memory of a pool's length: 3 + 10 x C words for a capacity C of 1 to 2048. The words that it held
+ * do not matter.
+ * Refuses 1. Leaves: an empty pool. */
+uint64_t lg_start(uint16_t *pool, size_t pool_words);
+
+/* Adds a grant. kind: 0 bars, 1 opens. Both ends of each range belong to it.
+ * Refuses 1, 3, 4, 2, 9, 5 and 6, in this order. Leaves: the pool with the grant live. */
+uint64_t lg_grant(uint16_t *pool, size_t pool_words, uint16_t number, uint8_t rank, uint8_t kind, uint16_t staff_from,
+                  uint16_t staff_to, uint16_t door_from, uint16_t door_to, uint16_t quarter_from, uint16_t quarter_to);
+
+/* Drops the grant of a number.
+ * Refuses 1, 3, 9 and 7, in this order. Leaves: the pool without the grant. */
+uint64_t lg_revoke(uint16_t *pool, size_t pool_words, uint16_t number);
+
+/* The numbers of the live grants whose boxes overlap a box, ascending, from the start of the list.
+ * Accepted: a = how many were written. Refuses 1, 2, 9 and 8 (a = count needed), in this order.
+ * Leaves: the numbers in the list; elements past them, and the pool, stay. */
+uint64_t lg_list(const uint16_t *pool, size_t pool_words, uint16_t staff_from, uint16_t staff_to, uint16_t door_from,
+                 uint16_t door_to, uint16_t quarter_from, uint16_t quarter_to, uint16_t *list, size_t list_words);
+
+/* What decides at a point: the live grant of the highest rank that holds it, at equal rank the one of the lowest number.
+ * Accepted: a = 0 none, 1 opens, 2 barred. Refuses 1 and 9, in this order.
+ * Leaves: with 1 and 2, out = number, rank, kind, staff from, staff to, door from, door to, quarter from, quarter to, 0; otherwise
+ * out stays. The pool stays. */
+uint64_t lg_decide(const uint16_t *pool, size_t pool_words, uint16_t staff, uint16_t door, uint16_t quarter, uint16_t out[10]);
+
+/* Accepted: a = live grants, b = the capacity less a. Refuses 1 and 9, in this order. Leaves: everything as it was. */
+uint64_t lg_count(const uint16_t *pool, size_t pool_words);
+
+/* The verdict on one block of a file, judged alone.
+ * Refuses 10, 12 (b = block) and 11 (b = block), in this order. Leaves: everything as it was. */
+uint64_t lg_block(const uint8_t *file, size_t file_bytes, uint64_t block);
+
+/* The part of the file that the records of a block occupy.
+ * a = its length in bytes, b = where it starts in the file; both 0 where lg_block refuses the block, and for block 0, which has no
+ * records. The fault's number is always 0. Leaves: everything as it was. */
+uint64_t lg_block_part(const uint8_t *file, size_t file_bytes, uint64_t block);
+
+#ifdef __cplusplus
+}
+#endif
+
+#endif
