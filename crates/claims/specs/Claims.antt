@@ -10,8 +10,8 @@
 --   counts not from the links                Demand3 .holds and .answers: the reached cells carry the live grants, as many as counted
 --   plain scan behind links of any order     Demand3 .holds .placed
 --   every file written for all doors         Demand3 .files: the file is that of B and the grants touching it
---   match always equal; file always empty    Demand2 .matches, .accepted
---   refuses every call                       Demand1: Judged .accepts; Demand2 .accepted
+--   match always equal; file always empty    Demand2 .matches, .accepted-files
+--   refuses every call                       Demand1: Judged .accepts; Demand2 .accepted-files
 --   gives 9 on a sound pool                  Demand3 .answers, Demand1 .never-broken
 use Prim.Native.Nat.{ℕ, _/_, _≤_, _<_}
 use mathlib.Core.Logic.{_↔_, _≢_}
