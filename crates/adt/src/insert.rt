@@ -12,6 +12,7 @@ use crate::node::link_place;
 use crate::node::wide;
 use geometry::axis::LEVELS;
 use geometry::axis::axis_of;
+use geometry::region::Point;
 use geometry::region::halve;
 use geometry::region::root_region;
 use geometry::region::side_of;
@@ -27,7 +28,7 @@ pub enum Slot {
 }
 
 // The way down of a point.
-pub fn find_slot(pool: &[u16], cells: usize, point: [u16; 7]) -> Slot
+pub fn find_slot(pool: &[u16], cells: usize, point: Point) -> Slot
     requires { ⌜ (cells ≤ maxGrants) × (length (now pool) ≡ poolLength cells) ⌝ }
     ensures { λ r. ⌜ wayOf r ≡ descend (now (pool .entry)) point ⌝ }
 {

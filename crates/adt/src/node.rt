@@ -7,6 +7,7 @@ ghost use Rattle.geometry.specs.Point.{pointOf};
 ghost use Rattle.pool.specs.Capacity.{poolLength};
 ghost use Rattle.adt.specs.Node.{linkPlace, pointAt};
 use geometry::Side;
+use geometry::region::Point;
 use model::Grant;
 use pool::Field;
 use pool::layout::field;
@@ -19,7 +20,7 @@ pub fn wide(x: u16) -> usize
 }
 
 // A grant as a point on seven axes.
-pub fn point_of(g: Grant) -> [u16; 7]
+pub fn point_of(g: Grant) -> Point
     ensures { λ r. ⌜ r ≡ pointOf g ⌝ }
 {
     let b = g.bounds;
@@ -35,7 +36,7 @@ pub fn point_of(g: Grant) -> [u16; 7]
 }
 
 // The point of the grant in a cell.
-pub fn point_at(pool: &[u16], cell: usize) -> [u16; 7]
+pub fn point_at(pool: &[u16], cell: usize) -> Point
     requires { ⌜ (0 < cell) × (cell ≤ maxGrants) × (poolLength cell ≤ length (now pool)) ⌝ }
     ensures { λ r. ⌜ r ≡ pointAt (now (pool .entry)) cell ⌝ }
 {

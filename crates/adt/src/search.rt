@@ -14,23 +14,31 @@ use crate::node::wide;
 use geometry::Side;
 use geometry::axis::LEVELS;
 use geometry::axis::axis_of;
+use geometry::region::Region;
 use geometry::region::half_meets;
 use geometry::region::halve;
 use geometry::region::is_inside;
 use geometry::region::meets_range;
 use geometry::region::root_region;
 use pool::Field;
+use pool::layout::MAX_CAPACITY;
 use pool::layout::ROOT;
 use pool::layout::place_of;
+
+// Room for a hit of every cell: the cells of the hits, in the order of the search.
+pub type HitCells = [u16; MAX_CAPACITY];
+
+// What a search counts beside its hits.
+pub type Tally = [usize; 4];
 
 // The places of a search's tally: the cells met, the hits found, and of the first hit its level and the place of the link it hangs on.
 const MET: usize = 0;
 
-const FOUND: usize = 1;
+pub const FOUND: usize = 1;
 
-const LEVEL: usize = 2;
+pub const LEVEL: usize = 2;
 
-const LINK: usize = 3;
+pub const LINK: usize = 3;
 
 // Counts the cell k as met, and keeps it if its point lies in the range; false where all cells have been met before.
 fn test(
@@ -39,9 +47,9 @@ fn test(
     k: usize,
     level: usize,
     link: usize,
-    range: &[[u16; 2]; 7],
-    hits: &mut [u16; 2048],
-    tally: &mut [usize; 4],
+    range: &Region,
+    hits: &mut HitCells,
+    tally: &mut Tally,
 ) -> bool
     requires { ⌜ Ready (now pool) cells (now hits) (now tally) × (0 < k) × (k ≤ cells) ⌝ }
     ensures { λ r. ⌜ Stands cells r (now (hits .exit)) (now (tally .exit)) (meet (now (pool .entry)) cells (now (range .entry)) (record { level = level; link = link }) k (searchIn true (now (hits .entry)) (now (tally .entry)))) ⌝ }
@@ -72,10 +80,10 @@ fn visit(
     below: usize,
     k: usize,
     link: usize,
-    region: [[u16; 2]; 7],
-    range: &[[u16; 2]; 7],
-    hits: &mut [u16; 2048],
-    tally: &mut [usize; 4],
+    region: Region,
+    range: &Region,
+    hits: &mut HitCells,
+    tally: &mut Tally,
 ) -> bool
     requires { ⌜ Ready (now pool) cells (now hits) (now tally) × (below ≤ levels) × (0 < k) × (k ≤ cells) × Shape region × (meets region (now range) ≡ true) ⌝ }
     ensures { λ r. ⌜ Stands cells r (now (hits .exit)) (now (tally .exit)) (visitBy (now (pool .entry)) cells (now (range .entry)) (enter (now (pool .entry)) cells (now (range .entry)) below) (record { level = levels - below; link = link }) k region (searchIn true (now (hits .entry)) (now (tally .entry)))) ⌝ }
@@ -124,10 +132,10 @@ fn enter(
     link: usize,
     side: Side,
     axis: usize,
-    region: [[u16; 2]; 7],
-    range: &[[u16; 2]; 7],
-    hits: &mut [u16; 2048],
-    tally: &mut [usize; 4],
+    region: Region,
+    range: &Region,
+    hits: &mut HitCells,
+    tally: &mut Tally,
 ) -> bool
     requires { ⌜ Ready (now pool) cells (now hits) (now tally) × (below ≤ levels) × (link < length (now pool)) × (axis < axes) × Shape region × (meets region (now range) ≡ true) ⌝ }
     ensures { λ r. ⌜ Stands cells r (now (hits .exit)) (now (tally .exit)) (enter (now (pool .entry)) cells (now (range .entry)) below link (half side region axis) (searchIn true (now (hits .entry)) (now (tally .entry)))) ⌝ }
@@ -163,9 +171,9 @@ fn enter(
 pub fn search(
     pool: &[u16],
     cells: usize,
-    range: &[[u16; 2]; 7],
-    hits: &mut [u16; 2048],
-    tally: &mut [usize; 4],
+    range: &Region,
+    hits: &mut HitCells,
+    tally: &mut Tally,
 ) -> bool
     requires { ⌜ Fresh (now pool) cells (now hits) (now tally) ⌝ }
     ensures { λ r. ⌜ Stands cells r (now (hits .exit)) (now (tally .exit)) (search (now (pool .entry)) (now (range .entry))) ⌝ }

@@ -2,9 +2,10 @@
 ghost use mathlib.Core.Path.{_≡_};
 ghost use Rattle.geometry.specs.SearchRange.{rangeOfBox, rangeOfDoors, rangeOfNumber};
 use crate::axis::TOP;
+use crate::region::Region;
 use model::Box;
 
-pub fn range_of_box(b: Box) -> [[u16; 2]; 7]
+pub fn range_of_box(b: Box) -> Region
     ensures { λ r. ⌜ r ≡ rangeOfBox b ⌝ }
 {
     let free = [0, TOP];
@@ -26,7 +27,7 @@ pub fn range_of_box(b: Box) -> [[u16; 2]; 7]
 }
 
 // The doors, with the staff and quarter axes free.
-pub fn range_of_doors(from: u16, to: u16) -> [[u16; 2]; 7]
+pub fn range_of_doors(from: u16, to: u16) -> Region
     ensures { λ r. ⌜ r ≡ rangeOfDoors (record { from = from; to = to }) ⌝ }
 {
     let free = [0, TOP];
@@ -36,7 +37,7 @@ pub fn range_of_doors(from: u16, to: u16) -> [[u16; 2]; 7]
 }
 
 // A number, with all other axes free.
-pub fn range_of_number(number: u16) -> [[u16; 2]; 7]
+pub fn range_of_number(number: u16) -> Region
     ensures { λ r. ⌜ r ≡ rangeOfNumber number ⌝ }
 {
     let free = [0, TOP];

@@ -10,6 +10,12 @@ use crate::Side;
 use crate::axis::AXES;
 use crate::axis::TOP;
 
+// A region or a search range: on each axis a low and a high, passed by value.
+pub type Region = [[u16; 2]; AXES];
+
+// A grant's coordinates, one on each axis.
+pub type Point = [u16; AXES];
+
 fn wide(x: u16) -> usize
     ensures { λ r. ⌜ (r ≡ x) × (r < 65536) ⌝ }
 {
@@ -17,15 +23,15 @@ fn wide(x: u16) -> usize
 }
 
 // The root's region: all of every axis.
-pub fn root_region() -> [[u16; 2]; 7]
+pub fn root_region() -> Region
     ensures { λ r. ⌜ r ≡ rootRegion ⌝ }
 {
     let axis = [0, TOP];
-    [axis; 7]
+    [axis; AXES]
 }
 
 // The half of the region on a side: one range changes.
-pub fn halve(side: Side, mut region: [[u16; 2]; 7], axis: usize) -> [[u16; 2]; 7]
+pub fn halve(side: Side, mut region: Region, axis: usize) -> Region
     requires { ⌜ axis < axes ⌝ }
     ensures { λ r. ⌜ r ≡ half side region axis ⌝ }
 {
@@ -44,7 +50,7 @@ pub fn halve(side: Side, mut region: [[u16; 2]; 7], axis: usize) -> [[u16; 2]; 7
 }
 
 // The side whose half holds a coordinate.
-pub fn side_of(region: &[[u16; 2]; 7], axis: usize, x: u16) -> Side
+pub fn side_of(region: &Region, axis: usize, x: u16) -> Side
     requires { ⌜ axis < axes ⌝ }
     ensures { λ r. ⌜ r ≡ sideOf (now (region .entry)) axis x ⌝ }
 {
@@ -64,7 +70,7 @@ fn share(low: usize, high: usize, from: usize, to: usize) -> bool
 }
 
 // Whether the half of the region on a side meets the range on the axis that is halved.
-pub fn half_meets(side: Side, region: &[[u16; 2]; 7], axis: usize, range: &[[u16; 2]; 7]) -> bool
+pub fn half_meets(side: Side, region: &Region, axis: usize, range: &Region) -> bool
     requires { ⌜ (axis < axes) × Shape (now region) ⌝ }
     ensures { λ r. ⌜ r ≡ meetsOn (half side (now (region .entry)) axis) (now (range .entry)) axis ⌝ }
 {
@@ -79,7 +85,7 @@ pub fn half_meets(side: Side, region: &[[u16; 2]; 7], axis: usize, range: &[[u16
 }
 
 // Whether the region and the range have a point in common.
-pub fn meets_range(region: &[[u16; 2]; 7], range: &[[u16; 2]; 7]) -> bool
+pub fn meets_range(region: &Region, range: &Region) -> bool
     ensures { λ r. ⌜ r ≡ meets (now (region .entry)) (now (range .entry)) ⌝ }
 {
     let mut n: usize = AXES;
@@ -96,7 +102,7 @@ pub fn meets_range(region: &[[u16; 2]; 7], range: &[[u16; 2]; 7]) -> bool
 }
 
 // Whether the point lies in the range.
-pub fn is_inside(range: &[[u16; 2]; 7], point: [u16; 7]) -> bool
+pub fn is_inside(range: &Region, point: Point) -> bool
     ensures { λ r. ⌜ r ≡ inside (now (range .entry)) point ⌝ }
 {
     let mut n: usize = AXES;

@@ -7,6 +7,7 @@ use crate::hits::find_hits;
 use geometry::region::root_region;
 use model::Counted;
 use model::Fault;
+use pool::layout::MAX_CAPACITY;
 use pool::layout::capacity;
 
 pub fn count(pool: &[u16]) -> Counted
@@ -17,7 +18,7 @@ pub fn count(pool: &[u16]) -> Counted
         return Counted::Refused(Fault::BadPool);
     }
     let everything = root_region();
-    let mut hits = [0u16; 2048];
+    let mut hits = [0u16; MAX_CAPACITY];
     let Hits::Found(live) = find_hits(pool, cells, &everything, &mut hits) else {
         return Counted::Refused(Fault::BrokenLinks);
     };

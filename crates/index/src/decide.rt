@@ -10,6 +10,7 @@ ghost use Rattle.index.specs.Calls.{decideCall};
 use crate::hits::Hits;
 use crate::hits::find_hits;
 use adt::node::wide;
+use adt::search::HitCells;
 use geometry::range::range_of_box;
 use model::Decision;
 use model::Fault;
@@ -17,10 +18,11 @@ use model::decide::decision_of;
 use model::decide::outranks;
 use model::decide::point_box;
 use pool::cell::grant_at;
+use pool::layout::MAX_CAPACITY;
 use pool::layout::capacity;
 
 // What the grants in the first cells of the hits decide, in one pass: a later one takes the place only of one that it outranks.
-fn decide_among(pool: &[u16], hits: &[u16; 2048], found: usize) -> Decision
+fn decide_among(pool: &[u16], hits: &HitCells, found: usize) -> Decision
     requires { ⌜ CellsAt (now pool) (now hits) found ⌝ }
     ensures { λ r. ⌜ r ≡ decideAmong (map (grantAt (now (pool .entry))) (take found (now (hits .entry)))) ⌝ }
 {
@@ -47,7 +49,7 @@ pub fn decide(pool: &[u16], staff: u16, door: u16, quarter: u16) -> Decision
         return Decision::Refused(Fault::BadPool);
     }
     let range = range_of_box(point_box(staff, door, quarter));
-    let mut hits = [0u16; 2048];
+    let mut hits = [0u16; MAX_CAPACITY];
     let Hits::Found(found) = find_hits(pool, cells, &range, &mut hits) else {
         return Decision::Refused(Fault::BrokenLinks);
     };

@@ -6,8 +6,12 @@ ghost use Rattle.model.specs.Limits.{maxGrants};
 ghost use Rattle.pool.specs.Capacity.{poolLength};
 ghost use Rattle.index.specs.NumberSearch.{NumberFound};
 use adt::node::wide;
+use adt::search::FOUND;
+use adt::search::LEVEL;
+use adt::search::LINK;
 use adt::search::search;
 use geometry::range::range_of_number;
+use pool::layout::MAX_CAPACITY;
 
 // A search that met a cause of fault 9, one that hit nothing, or the first hit's cell, its level and the place of its link.
 pub enum NumberHit {
@@ -24,18 +28,18 @@ pub fn find_number(pool: &[u16], cells: usize, number: u16) -> NumberHit
     requires { ⌜ (cells ≤ maxGrants) × (length (now pool) ≡ poolLength cells) ⌝ }
     ensures { λ r. ⌜ NumberFound (now (pool .entry)) number r ⌝ }
 {
-    let mut hits = [0u16; 2048];
+    let mut hits = [0u16; MAX_CAPACITY];
     let mut tally = [0usize; 4];
     let range = range_of_number(number);
     if !search(pool, cells, &range, &mut hits, &mut tally) {
         return NumberHit::Broken;
     }
-    if tally[1] == 0 {
+    if tally[FOUND] == 0 {
         return NumberHit::Absent;
     }
     NumberHit::At {
         cell: wide(hits[0]),
-        level: tally[2],
-        link: tally[3],
+        level: tally[LEVEL],
+        link: tally[LINK],
     }
 }

@@ -5,7 +5,10 @@ ghost use lib.ListN.{length};
 ghost use Rattle.model.specs.Limits.{maxGrants};
 ghost use Rattle.pool.specs.Capacity.{poolLength};
 ghost use Rattle.index.specs.Hits.{HitsFound};
+use adt::search::FOUND;
+use adt::search::HitCells;
 use adt::search::search;
+use geometry::region::Region;
 
 // A search that met a cause of fault 9, or how many hits it left.
 pub enum Hits {
@@ -14,7 +17,7 @@ pub enum Hits {
 }
 
 // Leaves the cells of the hits in `hits`, in the order of the search.
-pub fn find_hits(pool: &[u16], cells: usize, range: &[[u16; 2]; 7], hits: &mut [u16; 2048]) -> Hits
+pub fn find_hits(pool: &[u16], cells: usize, range: &Region, hits: &mut HitCells) -> Hits
     requires { ⌜ (cells ≤ maxGrants) × (length (now pool) ≡ poolLength cells) × (length (now hits) ≡ maxGrants) ⌝ }
     ensures { λ r. ⌜ HitsFound (now (pool .entry)) (now (range .entry)) (now (hits .exit)) r ⌝ }
 {
@@ -22,5 +25,5 @@ pub fn find_hits(pool: &[u16], cells: usize, range: &[[u16; 2]; 7], hits: &mut [
     if !search(pool, cells, range, hits, &mut tally) {
         return Hits::Broken;
     }
-    Hits::Found(tally[1])
+    Hits::Found(tally[FOUND])
 }

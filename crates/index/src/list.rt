@@ -10,18 +10,20 @@ ghost use Rattle.index.specs.Contract.{Lends};
 use crate::hits::Hits;
 use crate::hits::find_hits;
 use adt::node::wide;
+use adt::search::HitCells;
 use geometry::range::range_of_box;
 use model::Box;
 use model::Fault;
 use model::Listed;
 use model::bounds::is_reversed;
 use pool::Field;
+use pool::layout::MAX_CAPACITY;
 use pool::layout::capacity;
 use pool::layout::field;
 use sorting::sort_numbers;
 
 // Fills the list with the numbers in the hits' cells, in their order.
-fn copy_numbers(pool: &[u16], hits: &[u16; 2048], list: &mut [u16])
+fn copy_numbers(pool: &[u16], hits: &HitCells, list: &mut [u16])
     requires { ⌜ CellsAt (now pool) (now hits) (length (now list)) ⌝ }
     ensures { λ r. ⌜ now (list .exit) ≡ numbersAt (now (pool .entry)) (take (length (now (list .entry))) (now (hits .entry))) ⌝ }
 {
@@ -33,7 +35,7 @@ fn copy_numbers(pool: &[u16], hits: &[u16; 2048], list: &mut [u16])
 }
 
 // The same, ascending.
-fn write_numbers(pool: &[u16], hits: &[u16; 2048], list: &mut [u16])
+fn write_numbers(pool: &[u16], hits: &HitCells, list: &mut [u16])
     requires { ⌜ CellsAt (now pool) (now hits) (length (now list)) ⌝ }
     ensures { λ r. ⌜ now (list .exit) ≡ sortBy (λ n. n) (numbersAt (now (pool .entry)) (take (length (now (list .entry))) (now (hits .entry)))) ⌝ }
 {
@@ -52,7 +54,7 @@ pub fn list(pool: &[u16], bounds: Box, list: &mut [u16]) -> Listed
         return Listed::Refused(Fault::Reversed);
     }
     let range = range_of_box(bounds);
-    let mut hits = [0u16; 2048];
+    let mut hits = [0u16; MAX_CAPACITY];
     let Hits::Found(found) = find_hits(pool, cells, &range, &mut hits) else {
         return Listed::Refused(Fault::BrokenLinks);
     };

@@ -14,6 +14,9 @@ const HELD: usize = 4097;
 // The words of a pool of 2,048 cells.
 const WORDS: usize = 20483;
 
+// The slip program lends list so many numbers.
+const LENT: usize = 2048;
+
 // What a read brought: the end of the input, or the bytes held of a line that is not ended yet.
 enum Read {
     Held(usize),
@@ -109,7 +112,7 @@ fn run(pool: &mut [u16], lent: &mut [u16], line: &mut [u8]) {
 fn main() {
     let mut pool = [0u16; WORDS];
     index::start::start(&mut pool);
-    let mut lent = [0u16; 2048];
+    let mut lent = [0u16; LENT];
     let mut line = [0u8; HELD];
     run(&mut pool, &mut lent, &mut line);
 }
