@@ -22,5 +22,6 @@ pub mod LookSteps
 pub mod CountSteps
 pub mod NumberLaws
 pub mod ListSteps
+pub mod SortedCellLaws
 pub mod DecideLaws
 pub mod DecideSteps

@@ -8,4 +8,5 @@ pub mod grant;
 mod hits;
 pub mod list;
 pub mod revoke;
+mod sorted_cells;
 pub mod start;
