@@ -10,3 +10,4 @@ pub mod list;
 pub mod revoke;
 mod sorted_cells;
 pub mod start;
+mod write_file;
