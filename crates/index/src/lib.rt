@@ -10,4 +10,5 @@ pub mod list;
 pub mod revoke;
 mod sorted_cells;
 pub mod start;
+pub mod write;
 mod write_file;
