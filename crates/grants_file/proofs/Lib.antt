@@ -12,4 +12,5 @@ pub mod BlockSteps
 pub mod FileSteps
 pub mod BlockReadSteps
 pub mod VerdictSteps
+pub mod WriteBlockSteps
 pub mod SetLaws

@@ -6,6 +6,7 @@ pub mod bytes;
 pub mod file;
 pub mod record;
 pub mod verdict;
+pub mod write_block;
 
 use model::Fault;
 

@@ -45,7 +45,7 @@ fn total_in(file: &[u8]) -> usize
 }
 
 // The blocks of a file of so many grants.
-fn blocks_for(total: usize) -> usize
+pub fn blocks_for(total: usize) -> usize
     requires { ⌜ total < 65536 ⌝ }
     ensures { λ r. ⌜ r ≡ blocksFor total ⌝ }
 {
@@ -53,7 +53,7 @@ fn blocks_for(total: usize) -> usize
 }
 
 // The records that a block holds, of the file's total.
-fn count_in(total: usize, block: usize) -> usize
+pub fn count_in(total: usize, block: usize) -> usize
     requires { ⌜ (0 < block) × (block ≤ maxBlocks) ⌝ }
     ensures { λ r. ⌜ (r ≡ countIn total block) × (r ≤ recordsPerBlock) ⌝ }
 {

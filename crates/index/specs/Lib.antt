@@ -9,3 +9,4 @@ pub mod Contract
 pub mod NumberSearch
 pub mod Plans
 pub mod Hits
+pub mod WriteKeys

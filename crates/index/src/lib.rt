@@ -8,4 +8,7 @@ pub mod grant;
 mod hits;
 pub mod list;
 pub mod revoke;
+mod sorted_cells;
 pub mod start;
+pub mod write;
+mod write_file;
