@@ -1,6 +1,5 @@
 -- The words of a live cell are those of its grant (Carries of specs/Reach), after an insertion and after a removal.
 --   carries-same         where the words are the same
---   carries-grantAt      the grant in a cell that carries one that fits
 --   carries-inserted, carries-inserted-other     the new cell carries the new grant, and each other cell what it carried
 --   carries-removed      each cell left carries what it carried
 -- Assumes nothing.
@@ -10,11 +9,10 @@ use mathlib.Core.List.{List, _∷_, List·Memᴰ, List·Memᴰ·head, List·Mem�
 use lib.ListN.{length}
 use Rattle.lists.proofs.PermLaws.{perm-mem}
 use Rattle.model.specs.declared.Grant.{Grant}
-use Rattle.model.specs.Values.{GrantFits}
 use Rattle.pool.specs.Capacity.{poolLength}
-use Rattle.pool.specs.Cell.{grantAt, cellOf, withCell}
+use Rattle.pool.specs.Cell.{cellOf, withCell}
 use Rattle.pool.proofs.CellLaws.{SameGrantWords}
-use Rattle.pool.proofs.GrantWordsLaws.{slice-fieldWords, fieldWords-same, fieldWords-withCell, grantAt-fieldWords}
+use Rattle.pool.proofs.GrantWordsLaws.{slice-fieldWords, fieldWords-same, fieldWords-withCell}
 use Rattle.adt.specs.Reach.{Carries}
 use Rattle.adt.proofs.Spells.{Tree, cellsOf}
 use Rattle.adt.proofs.Linked.{Linked, linked-upto}
@@ -23,9 +21,6 @@ use Rattle.adt.proofs.RemoveLaws.{Removed}
 
 pub carries-same : (w v : List ℕ) (c k : ℕ) (g : Grant) → 0 < k → k ≤ c → length w ≡ poolLength c → length v ≡ poolLength c → SameGrantWords w v k → Carries w k g → Carries v k g
 carries-same w v c k g pos le wide long same e = slice-fieldWords v c k pos le long ∙ fieldWords-same w v k same ∙ sym (slice-fieldWords w c k pos le wide) ∙ e
-
-pub carries-grantAt : (w : List ℕ) (c k : ℕ) (g : Grant) → 0 < k → k ≤ c → length w ≡ poolLength c → GrantFits g → Carries w k g → grantAt w k ≡ g
-carries-grantAt w c k g pos le long fits e = grantAt-fieldWords w k g (sym (slice-fieldWords w c k pos le long) ∙ e) fits
 
 module _ {w v : List ℕ} {c : ℕ} {t : Tree} {k : ℕ} {ks : List ℕ} {g : Grant} (h : Linked w c t (k ∷ ks)) (i : Inserted w v c t k ks g) where
   pub carries-inserted : Carries v k g

@@ -1,12 +1,11 @@
 -- The removal walk that stops and document 01's links of it are one walk: it is lost exactly where they are broken.
 --   lostDescent          a walk as a test
 --   follow-lost          from any cell on the walk
---   terminalFrom-lost    the whole walk from a cell at its own spot; terminalFrom-lost-iff the same as a fact
+--   terminalFrom-lost    the whole walk from a cell at its own spot
 -- Assumes nothing.
 use Prim.Native.Nat.{ℕ, zero, suc, _+_, _-_, _≤_}
-use mathlib.Core.Logic.{_↔_}
 use mathlib.Core.Path.{_≡_, refl, ap}
-use mathlib.Core.Bool.{Bool, true, false, cond, false≢true}
+use mathlib.Core.Bool.{Bool, true, false, cond}
 use mathlib.Core.List.{List, []}
 use lib.Dec.{eqb}
 use lib.ListN.{getD}
@@ -45,11 +44,3 @@ pub terminalFrom-lost : (w : List ℕ) (k : ℕ) (here : Spot) → here .level �
     → lostDescent (terminalFrom w k here) ≡ brokenBy (capacityOf w) 1 (removalLinks w k (here .level))
 unfolding terminalFrom removalLinks
 terminalFrom-lost w k here above some = follow-lost w (capacityOf w) (levels - here .level) (here .level) k (here .link) 1 (omega arith) some
-
-lostDescent-iff : (d : Descent) → (d ≡ lost) ↔ (lostDescent d ≡ true)
-lostDescent-iff lost = (λ e. refl, λ e. refl)
-lostDescent-iff (terminal leaf at) = (λ e. ap lostDescent e, λ e. absurd (false≢true e))
-
-pub terminalFrom-lost-iff : (w : List ℕ) (k : ℕ) (here : Spot) → here .level ≤ levels → 1 ≤ capacityOf w
-    → (terminalFrom w k here ≡ lost) ↔ (brokenBy (capacityOf w) 1 (removalLinks w k (here .level)) ≡ true)
-terminalFrom-lost-iff w k here above some = rw (terminalFrom-lost w k here above some) at (lostDescent-iff (terminalFrom w k here))

@@ -1,12 +1,11 @@
 -- Grant's way down that stops and document 01's links of it are one way: it is lost exactly where they are broken.
 --   lostWay          a way as a test
 --   wayDown-lost     from any link on the way
---   descend-lost     the whole way of a point; descend-lost-iff the same as a fact
+--   descend-lost     the whole way of a point
 -- Assumes nothing.
 use Prim.Native.Nat.{ℕ, zero, suc, _+_, _-_, _≤_}
-use mathlib.Core.Logic.{_↔_}
 use mathlib.Core.Path.{_≡_, refl, sym, ap}
-use mathlib.Core.Bool.{Bool, true, false, cond, false≢true}
+use mathlib.Core.Bool.{Bool, true, false, cond}
 use mathlib.Core.List.{List, []}
 use lib.Dec.{eqb}
 use lib.ListN.{getD}
@@ -47,10 +46,3 @@ wayDown-lost w c p (suc n) l at g met depth few =
 pub descend-lost : (w p : List ℕ) → lostWay (descend w p) ≡ brokenBy (capacityOf w) 0 (wayLinks w p)
 unfolding descend wayLinks
 descend-lost w p = wayDown-lost w (capacityOf w) p (suc levels) 0 rootPlace rootRegion 0 refl (omega arith)
-
-lostWay-iff : (way : Way) → (way ≡ lost) ↔ (lostWay way ≡ true)
-lostWay-iff lost = (λ e. refl, λ e. refl)
-lostWay-iff (blankAt at) = (λ e. ap lostWay e, λ e. absurd (false≢true e))
-
-pub descend-lost-iff : (w p : List ℕ) → (descend w p ≡ lost) ↔ (brokenBy (capacityOf w) 0 (wayLinks w p) ≡ true)
-descend-lost-iff w p = rw descend-lost at (lostWay-iff (descend w p))

@@ -9,7 +9,6 @@ ghost use Rattle.adt.specs.Node.{linkPlace};
 ghost use Rattle.adt.specs.Insert.{descend, freeHead, nextFree, inserted};
 ghost use Rattle.adt.specs.WalkResult.{wayOf};
 use crate::node::link_place;
-use crate::node::wide;
 use geometry::axis::LEVELS;
 use geometry::axis::axis_of;
 use geometry::region::Point;
@@ -20,6 +19,7 @@ use model::Grant;
 use pool::cell::store_grant;
 use pool::layout::FREE;
 use pool::layout::ROOT;
+use pool::layout::wide;
 
 // Where a way down ends: at a cause of fault 9, or at the place of the blank link.
 pub enum Slot {

@@ -13,12 +13,6 @@ use pool::Field;
 use pool::layout::field;
 use pool::layout::place_of;
 
-pub fn wide(x: u16) -> usize
-    ensures { λ r. ⌜ (r ≡ x) × (r < 65536) ⌝ }
-{
-    x as usize
-}
-
 // A grant as a point on seven axes.
 pub fn point_of(g: Grant) -> Point
     ensures { λ r. ⌜ r ≡ pointOf g ⌝ }

@@ -7,13 +7,13 @@ ghost use Rattle.geometry.specs.Levels.{levels};
 ghost use Rattle.pool.specs.Capacity.{poolLength};
 ghost use Rattle.adt.specs.Remove.{nextLink, follow, replaced, freed, removed};
 ghost use Rattle.adt.specs.WalkResult.{descentOf, Removable};
-use crate::node::wide;
 use pool::Field;
 use pool::cell::store_free;
 use pool::layout::FREE;
 use pool::layout::field;
 use pool::layout::place_of;
 use pool::layout::set_field;
+use pool::layout::wide;
 
 // Where a removal walk ends: at a cause of fault 9, or at the terminal cell and the place of the link it hangs on.
 pub enum Terminal {

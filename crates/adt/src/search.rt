@@ -10,7 +10,6 @@ ghost use Rattle.geometry.specs.Region.{Shape, half, meets};
 ghost use Rattle.adt.specs.Search.{meet, visitBy, enter, search};
 ghost use Rattle.adt.specs.SearchMemory.{searchIn, Fresh, Ready, Stands};
 use crate::node::point_at;
-use crate::node::wide;
 use geometry::Side;
 use geometry::axis::LEVELS;
 use geometry::axis::axis_of;
@@ -24,6 +23,7 @@ use pool::Field;
 use pool::layout::MAX_CAPACITY;
 use pool::layout::ROOT;
 use pool::layout::place_of;
+use pool::layout::wide;
 
 // Room for a hit of every cell: the cells of the hits, in the order of the search.
 pub type HitCells = [u16; MAX_CAPACITY];

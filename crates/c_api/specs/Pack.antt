@@ -4,7 +4,7 @@
 --   pack answer         an accepted answer's first value is a: list, decide; of start, grant, revoke and the verdict on a block nothing
 --   packPair answer     its first value is a, its second is b: count
 --   packPart f i        the part of block i's records: a its length, b where it starts in the file; both 0 where the part is empty
---   boxOf, requestOf    the arguments of list and grant as document 01's box and request
+--   boxOf               six arguments as document 01's box
 -- A value is taken modulo what its bits hold. The values of every call fit them: counts are at most 2,048, lengths and places in a file
 -- at most 34,816, and blocks below 68.
 -- Assumes nothing: these are definitions.
@@ -15,7 +15,6 @@ use lib.Dec.{eqb}
 use lib.ListN.{length, getD}
 use Rattle.model.specs.declared.Box.{Box}
 use Rattle.model.specs.Answer.{Answer, accepted, refused}
-use Rattle.model.specs.Call.{Request}
 use Rattle.grants_file.specs.Block.{blockBytes, recordsPlace}
 use Rattle.grants_file.specs.BlockRead.{partOf}
 
@@ -55,6 +54,3 @@ boxOf staffFrom staffTo doorFrom doorTo quarterFrom quarterTo =
       «quarter_from» = quarterFrom;
       «quarter_to» = quarterTo;
     }
-
-abbrev pub requestOf : ℕ → ℕ → ℕ → Box → Request
-requestOf number rank kind bounds = record { number = number; rank = rank; kind = kind; bounds = bounds }

@@ -1,9 +1,10 @@
 // The C interface (include/lg.h): each call is the entry point of its name, and returns its answer packed into one word (specs/Pack).
 // Each is safe on any memory of the lengths that it is given. A refusal leaves everything as it was.
 ghost use mathlib.Core.Path.{_≡_};
+ghost use Rattle.model.specs.Call.{request};
 ghost use Rattle.index.specs.Calls.{startCall, grantCall, revokeCall, listCall, decideCall, countCall};
 ghost use Rattle.grants_file.specs.Answers.{readAnswer};
-ghost use Rattle.c_api.specs.Pack.{pack, packPair, packPart, boxOf, requestOf};
+ghost use Rattle.c_api.specs.Pack.{pack, packPair, packPart, boxOf};
 ghost use Rattle.c_api.specs.Contract.{PacksPool, PacksLent, PacksOut};
 use crate::pack::pack_counted;
 use crate::pack::pack_decision;
@@ -45,7 +46,7 @@ pub extern "C" fn lg_grant(
     quarter_from: u16,
     quarter_to: u16,
 ) -> u64
-    ensures { λ r. ⌜ PacksPool r (now (pool .exit)) (grantCall (now (pool .entry)) (requestOf number rank kind (boxOf «staff_from» «staff_to» «door_from» «door_to» «quarter_from» «quarter_to»))) ⌝ }
+    ensures { λ r. ⌜ PacksPool r (now (pool .exit)) (grantCall (now (pool .entry)) (request number rank kind (boxOf «staff_from» «staff_to» «door_from» «door_to» «quarter_from» «quarter_to»))) ⌝ }
 {
     let bounds = Box {
         staff_from,

@@ -8,12 +8,11 @@
 --   half-inside                  a point of a half is one of the whole
 --   inside-half                  a point of the whole is one of the half on its side
 --   common-meets                 regions with a common point meet
---   root-inside                  the root region holds every point with coordinates that fit
 --   meets-half                   of a region that meets a range, a half meets it exactly if it does on the axis that was halved
 -- Assumes nothing.
 use Prim.Native.Nat.{ℕ, _+_, _/_, _<_, _≤_}
 use mathlib.Core.Logic.{_≢_}
-use mathlib.Core.Path.{_≡_, refl, sym, ap, _∙_}
+use mathlib.Core.Path.{_≡_, refl, ap, _∙_}
 use mathlib.Core.Bool.{Bool, true, false, cond}
 use mathlib.Core.List.{List, []}
 use native.Mathlib.Omega.{arith}
@@ -30,7 +29,6 @@ use Rattle.lists.proofs.RangeLaws.{length-countFrom, getD-countFrom}
 use Rattle.geometry.specs.declared.Side.{Side}
 use Rattle.geometry.specs.declared.Side.the-variants.{Left, Right}
 use Rattle.geometry.specs.Axis.{axes}
-use Rattle.geometry.specs.Width.{topOf}
 pub use Rattle.geometry.specs.Region.{Shape}
 use Rattle.geometry.specs.Region.{Region, free, rootRegion, low, high, middle, sideOf, half, meetsOn, meets}
 use Rattle.geometry.specs.Point.{insideOn, inside}
@@ -191,6 +189,3 @@ root-shape = record {
   rows = length-map (countFrom 0 axes) free ∙ length-countFrom 0 axes;
   ends = λ a h. ap length (root-row a h);
 }
-
-pub root-inside : (p : List ℕ) → ((a : ℕ) → a < axes → getD p a 0 ≤ topOf a) → inside rootRegion p ≡ true
-root-inside p f = ends-inside rootRegion p (λ a h. record { above = rw (root-row a h) (omega arith); below = rw (root-row a h) (f a h) })

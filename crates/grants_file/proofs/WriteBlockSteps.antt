@@ -7,17 +7,16 @@
 --   seal-block         zeros up to the check, and the check, seal what stands before them
 --   block-started      the mark and two numbers are one run
 --   header-block       block 0, of the doors behind its start
---   records-turn       one record more
 --   record-block       a start and its records, sealed, are the block
 -- Assumes nothing.
 use Prim.Native.Nat.{ℕ, zero, suc, _+_, _-_, _*_, _≤_}
-use mathlib.Core.Path.{_≡_, refl, sym, ap, _∙_}
-use mathlib.Core.List.{List, [], _∷_, _++_, flatMap, append-nil, append-assoc}
+use mathlib.Core.Path.{_≡_, refl, ap, _∙_}
+use mathlib.Core.List.{List, [], _∷_, _++_, flatMap, append-nil}
 use native.Mathlib.Nat.{add-zero, add-suc, suc-add}
 use native.Mathlib.Omega.{arith}
-use lib.ListN.{length, take, drop, set, replicate, length-append, length-replicate, drop-of-length-le}
+use lib.ListN.{length, take, set, replicate, length-append, length-replicate, drop-of-length-le}
 use lib.Seq.{sets, length-sets, sets-eq, take-at, length-take-le}
-use Rattle.lists.proofs.ListLaws.{flatMap-append, length-flatMap}
+use Rattle.lists.proofs.ListLaws.{length-flatMap}
 use Rattle.model.specs.declared.Grant.{Grant}
 use Rattle.model.specs.Interval.{Interval}
 use Rattle.checksum.specs.Checksum.{checksum}
@@ -93,16 +92,6 @@ module _ (b : List ℕ) where
   header-block n doors long d f t e =
       let body : List ℕ = started 0 n ++ be16 (doors .from) ++ be16 (doors .to) in
       e ∙ rw (t, f, d) (ap sealed (take-sets b body headerEnd refl (omega (arith, long))))
-
-  pub records-turn : (start : List ℕ) (gs : List Grant) (g : Grant) (at : ℕ) {stored block : List ℕ} → length (start ++ flatMap encodeRecord gs) ≡ at
-      → stored ≡ sets b 0 (start ++ flatMap encodeRecord gs) → block ≡ sets stored at (encodeRecord g)
-      → block ≡ sets b 0 (start ++ flatMap encodeRecord (gs ++ (g ∷ [])))
-  unfolding flatMap
-  records-turn start gs g at e s d =
-      let one : flatMap encodeRecord (g ∷ []) ≡ encodeRecord g = append-nil (encodeRecord g) in
-      let more : (start ++ flatMap encodeRecord gs) ++ encodeRecord g ≡ start ++ flatMap encodeRecord (gs ++ (g ∷ [])) =
-      rw (flatMap-append encodeRecord gs (g ∷ []), one) (append-assoc start (flatMap encodeRecord gs) (encodeRecord g)) in
-      d ∙ rw s (sets-append b 0 (start ++ flatMap encodeRecord gs) (encodeRecord g) at (omega (arith, e))) ∙ ap (sets b 0) more
 
 pub length-records : (i n : ℕ) (gs : List Grant) → length (started i n ++ flatMap encodeRecord gs) ≡ recordsPlace + recordBytes * length gs
 length-records i n gs =

@@ -45,11 +45,11 @@ use Rattle.index.specs.declared.revoke.Removal.the-variants as removal
 use Rattle.index.specs.Walks.{numberSearch, isBroken, hitsOf, requestWay, removalOf}
 use Rattle.index.specs.Causes.{numberLive, noFreeCell, grantBroken, revokeBroken}
 use Rattle.index.specs.Order.{startOrder, grantOrder, revokeOrder}
-use Rattle.index.specs.Calls.{startCall, grantCall, revokeCall}
+use Rattle.index.specs.Calls.{startCall, grantCall, revokeCall, grantLine, revokeLine}
 use Rattle.index.specs.Contract.{Leaves}
 use Rattle.index.specs.NumberSearch.{FirstAt, NumberFound}
 use Rattle.index.proofs.RefusalSteps.{Taken}
-use Rattle.index.specs.Plans.{grantLine, revokeLine, slotOrder, Insertable, InsertionPlanned, Found, RemovalPlanned}
+use Rattle.index.specs.Plans.{slotOrder, Insertable, InsertionPlanned, Found, RemovalPlanned}
 
 -- a pool that was taken has the size of its cells
 pub sized : {wrong : Bool} {w : List ℕ} {c : ℕ} → Taken wrong w c → Sized w c

@@ -17,7 +17,7 @@ use Rattle.lists.specs.Overwrite.{overwrite}
 use Rattle.lists.specs.Sort.{sortBy}
 use Rattle.model.specs.declared.Box.{Box}
 use Rattle.model.specs.Answer.{accepted, decisionAnswer}
-use Rattle.model.specs.Refusal.{Step, refusing}
+use Rattle.model.specs.Refusal.{Cause, Step, refusing}
 use Rattle.model.specs.Decide.{decideAmong}
 use Rattle.model.specs.Call.{Request, requested, Call, grant, revoke, list, decide, count}
 use Rattle.pool.specs.Capacity.{capacityOf}
@@ -42,10 +42,14 @@ abbrev pub grantedWords : List ℕ → Request → Way → List ℕ
 grantedWords w r insert.lost = w
 grantedWords w r (insert.blankAt at) = inserted w at (requested r)
 
+-- grant's order line, with what its walks found
+abbrev pub grantLine : List ℕ → Request → List Cause
+grantLine w r = grantOrder w r (grantBroken w r) (hitsOf (numberSearch w (r .number)))
+
 unfoldable pub grantCall : List ℕ → Request → Step (List ℕ)
 grantCall w r =
     refusing
-    (grantOrder w r (grantBroken w r) (hitsOf (numberSearch w (r .number))))
+    (grantLine w r)
     w []
     (record { state = grantedWords w r (requestWay w r); answer = accepted []; lent = [] })
 
@@ -54,11 +58,15 @@ abbrev pub revokedWords : List ℕ → ℕ → ℕ → Descent → List ℕ
 revokedWords w k at remove.lost = w
 revokedWords w k at (remove.terminal leaf leafAt) = removed w k at leaf leafAt
 
+-- revoke's
+abbrev pub revokeLine : List ℕ → ℕ → List Cause
+revokeLine w n = revokeOrder w n (revokeBroken w n) (hitsOf (numberSearch w n))
+
 unfoldable pub revokeCall : List ℕ → ℕ → Step (List ℕ)
 revokeCall w n =
     let s = numberSearch w n in
     refusing
-    (revokeOrder w n (revokeBroken w n) (hitsOf s))
+    (revokeLine w n)
     w []
     (record { state = revokedWords w (firstHit s) (firstSpotOf s .link) (removalOf w s); answer = accepted []; lent = [] })
 

@@ -4,11 +4,10 @@
 --   noFreeCell w              6: a cell is free when the free head isn't 0
 --   tooManyGrants w f         6 in load: n above C
 --   listTooShort hits lent    8, by the number of hits
---   isBroken s                9 in a call that makes one search
 --   grantBroken w r           9 in grant: the number's search, and, when it isn't found, the way down, the free head and its cell's left link
 --   revokeBroken w n          9 in revoke: the number's search, and, when it is found, the removal walk from the first hit
 --   lentTooShort hits lent    14, by the number of hits
--- Here 9 is that of the walks that stop; index/specs/LinkCauses says it as document 01 does.
+-- Here 9 is that of the walks that stop, in a call that makes one search `isBroken` of Walks; LinkCauses says it as document 01 does.
 -- Assumes nothing: these are definitions.
 use Prim.Native.Nat.{ℕ, _*_}
 use mathlib.Core.Bool.{Bool, true, false, not, _&&_, _||_}

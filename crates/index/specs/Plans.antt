@@ -3,7 +3,6 @@
 --   slotOrder w r                    the end of grant's order line, where the number isn't found
 --   InsertionPlanned causes w r p    p refuses by these causes, or says where the requested grant hangs
 --   RemovalPlanned w n p             p refuses as revoke does, or says which cell goes and which takes its place
---   grantLine w r, revokeLine w n     the order lines, with what the walks found
 -- Assumes nothing: these are definitions.
 use Prim.Native.Nat.{ℕ, _<_, _≤_}
 use mathlib.Core.Path.{_≡_}
@@ -23,15 +22,9 @@ use Rattle.index.specs.declared.grant.Insertion.{Insertion}
 use Rattle.index.specs.declared.grant.Insertion.the-variants as insertion
 use Rattle.index.specs.declared.revoke.Removal.{Removal}
 use Rattle.index.specs.declared.revoke.Removal.the-variants as removal
-use Rattle.index.specs.Walks.{numberSearch, hitsOf, firstHit, firstSpotOf, requestWay, removalOf}
-use Rattle.index.specs.Causes.{noFreeCell, wayLost, grantBroken, revokeBroken}
-use Rattle.index.specs.Order.{grantOrder, revokeOrder}
-
-abbrev pub grantLine : List ℕ → Request → List Cause
-grantLine w r = grantOrder w r (grantBroken w r) (hitsOf (numberSearch w (r .number)))
-
-abbrev pub revokeLine : List ℕ → ℕ → List Cause
-revokeLine w n = revokeOrder w n (revokeBroken w n) (hitsOf (numberSearch w n))
+use Rattle.index.specs.Walks.{numberSearch, firstHit, firstSpotOf, requestWay, removalOf}
+use Rattle.index.specs.Causes.{noFreeCell, wayLost}
+use Rattle.index.specs.Calls.{revokeLine}
 
 unfoldable pub slotOrder : List ℕ → Request → List Cause
 slotOrder w r = BrokenLinks if (wayLost (requestWay w r) || freeBroken w) ∷ Full if noFreeCell w ∷ []

@@ -9,7 +9,6 @@ ghost use Rattle.index.specs.Hits.{CellsAt};
 ghost use Rattle.index.specs.Calls.{decideCall};
 use crate::hits::Hits;
 use crate::hits::find_hits;
-use adt::node::wide;
 use adt::search::HitCells;
 use geometry::range::range_of_box;
 use model::Decision;
@@ -20,6 +19,7 @@ use model::decide::point_box;
 use pool::cell::grant_at;
 use pool::layout::MAX_CAPACITY;
 use pool::layout::capacity;
+use pool::layout::wide;
 
 // What the grants in the first cells of the hits decide, in one pass: a later one takes the place only of one that it outranks.
 fn decide_among(pool: &[u16], hits: &HitCells, found: usize) -> Decision

@@ -5,13 +5,13 @@ ghost use lib.ListN.{length};
 ghost use Rattle.model.specs.Limits.{maxGrants};
 ghost use Rattle.pool.specs.Capacity.{poolLength};
 ghost use Rattle.index.specs.NumberSearch.{NumberFound};
-use adt::node::wide;
 use adt::search::FOUND;
 use adt::search::LEVEL;
 use adt::search::LINK;
 use adt::search::search;
 use geometry::range::range_of_number;
 use pool::layout::MAX_CAPACITY;
+use pool::layout::wide;
 
 // A search that met a cause of fault 9, one that hit nothing, or the first hit's cell, its level and the place of its link.
 pub enum NumberHit {

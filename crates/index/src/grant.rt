@@ -1,20 +1,19 @@
 // grant: adds a grant. Refuses 1, 3, 4, 2, 9, 5 and 6, in this order, and then leaves everything as it was.
 ghost use mathlib.Core.Path.{_≡_};
 ghost use Rattle.model.specs.Answer.{outcomeAnswer};
-ghost use Rattle.model.specs.Call.{requested};
-ghost use Rattle.index.specs.Calls.{grantCall};
+ghost use Rattle.model.specs.Call.{request, requested};
+ghost use Rattle.index.specs.Calls.{grantLine, grantCall};
 ghost use Rattle.index.specs.Contract.{Leaves};
 ghost use Rattle.pool.specs.Capacity.{Sized};
 ghost use Rattle.adt.specs.Insert.{blankAt};
 ghost use Rattle.index.specs.Walks.{requestWay};
-ghost use Rattle.index.specs.Plans.{slotOrder, grantLine, InsertionPlanned};
+ghost use Rattle.index.specs.Plans.{slotOrder, InsertionPlanned};
 use crate::find::NumberHit;
 use crate::find::find_number;
 use adt::insert::Slot;
 use adt::insert::find_slot;
 use adt::insert::insert;
 use adt::node::point_of;
-use adt::node::wide;
 use model::Box;
 use model::Fault;
 use model::Grant;
@@ -25,6 +24,7 @@ use pool::Field;
 use pool::layout::FREE;
 use pool::layout::capacity;
 use pool::layout::field;
+use pool::layout::wide;
 
 // What grant is to do, once all walks and tests are done: refuse, or hang the free head's cell at the place of a blank link.
 pub enum Insertion {
@@ -33,7 +33,7 @@ pub enum Insertion {
 }
 
 fn requested(number: u16, rank: u8, kind: u8, bounds: Box) -> Grant
-    ensures { λ r. ⌜ r ≡ requested (record { number = number; rank = rank; kind = kind; bounds = bounds }) ⌝ }
+    ensures { λ r. ⌜ r ≡ requested (request number rank kind bounds) ⌝ }
 {
     if kind == 1 {
         return Grant {
@@ -61,8 +61,8 @@ fn plan_free(
     kind: u8,
     bounds: Box,
 ) -> Insertion
-    requires { ⌜ Sized (now pool) cells × (requestWay (now pool) (record { number = number; rank = rank; kind = kind; bounds = bounds }) ≡ blankAt link) ⌝ }
-    ensures { λ r. ⌜ InsertionPlanned (slotOrder (now (pool .entry)) (record { number = number; rank = rank; kind = kind; bounds = bounds })) (now (pool .entry)) (record { number = number; rank = rank; kind = kind; bounds = bounds }) r ⌝ }
+    requires { ⌜ Sized (now pool) cells × (requestWay (now pool) (request number rank kind bounds) ≡ blankAt link) ⌝ }
+    ensures { λ r. ⌜ InsertionPlanned (slotOrder (now (pool .entry)) (request number rank kind bounds)) (now (pool .entry)) (request number rank kind bounds) r ⌝ }
 {
     let free = wide(pool[FREE]);
     if cells < free {
@@ -81,7 +81,7 @@ fn plan_free(
 // The way down, and then the free head: what is left where the number isn't found.
 fn plan_slot(pool: &[u16], cells: usize, number: u16, rank: u8, kind: u8, bounds: Box) -> Insertion
     requires { ⌜ Sized (now pool) cells ⌝ }
-    ensures { λ r. ⌜ InsertionPlanned (slotOrder (now (pool .entry)) (record { number = number; rank = rank; kind = kind; bounds = bounds })) (now (pool .entry)) (record { number = number; rank = rank; kind = kind; bounds = bounds }) r ⌝ }
+    ensures { λ r. ⌜ InsertionPlanned (slotOrder (now (pool .entry)) (request number rank kind bounds)) (now (pool .entry)) (request number rank kind bounds) r ⌝ }
 {
     let slot = find_slot(pool, cells, point_of(requested(number, rank, kind, bounds)));
     match slot {
@@ -92,7 +92,7 @@ fn plan_slot(pool: &[u16], cells: usize, number: u16, rank: u8, kind: u8, bounds
 
 // All walks and tests of grant, in document 01's order; nothing is written.
 fn plan_insertion(pool: &[u16], number: u16, rank: u8, kind: u8, bounds: Box) -> Insertion
-    ensures { λ r. ⌜ InsertionPlanned (grantLine (now (pool .entry)) (record { number = number; rank = rank; kind = kind; bounds = bounds })) (now (pool .entry)) (record { number = number; rank = rank; kind = kind; bounds = bounds }) r ⌝ }
+    ensures { λ r. ⌜ InsertionPlanned (grantLine (now (pool .entry)) (request number rank kind bounds)) (now (pool .entry)) (request number rank kind bounds) r ⌝ }
 {
     let cells = capacity(pool);
     if cells == 0 {
@@ -120,7 +120,7 @@ fn plan_insertion(pool: &[u16], number: u16, rank: u8, kind: u8, bounds: Box) ->
 }
 
 pub fn grant(pool: &mut [u16], number: u16, rank: u8, kind: u8, bounds: Box) -> Outcome
-    ensures { λ r. ⌜ Leaves (outcomeAnswer r) (now (pool .exit)) (grantCall (now (pool .entry)) (record { number = number; rank = rank; kind = kind; bounds = bounds })) ⌝ }
+    ensures { λ r. ⌜ Leaves (outcomeAnswer r) (now (pool .exit)) (grantCall (now (pool .entry)) (request number rank kind bounds)) ⌝ }
 {
     let plan = plan_insertion(pool, number, rank, kind, bounds);
     match plan {

@@ -1,4 +1,4 @@
-// The search that list, decide and count make.
+// The search that list, decide, count and write make.
 ghost use mathlib.Core.Path.{_≡_};
 ghost use Prim.Native.Nat.{_≤_};
 ghost use lib.ListN.{length};

@@ -9,7 +9,6 @@ ghost use Rattle.index.specs.Calls.{listCall};
 ghost use Rattle.index.specs.Contract.{Lends};
 use crate::hits::Hits;
 use crate::hits::find_hits;
-use adt::node::wide;
 use adt::search::HitCells;
 use geometry::range::range_of_box;
 use model::Box;
@@ -20,6 +19,7 @@ use pool::Field;
 use pool::layout::MAX_CAPACITY;
 use pool::layout::capacity;
 use pool::layout::field;
+use pool::layout::wide;
 use sorting::sort_numbers;
 
 // Fills the list with the numbers in the hits' cells, in their order.

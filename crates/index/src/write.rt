@@ -13,6 +13,7 @@ use grants_file::block::BLOCK_BYTES;
 use grants_file::verdict::blocks_for;
 use model::Fault;
 use model::Written;
+use pool::layout::MAX_CAPACITY;
 use pool::layout::capacity;
 
 pub fn write(pool: &[u16], door_from: u16, door_to: u16, bytes: &mut [u8]) -> Written
@@ -26,7 +27,7 @@ pub fn write(pool: &[u16], door_from: u16, door_to: u16, bytes: &mut [u8]) -> Wr
         return Written::Refused(Fault::Reversed);
     }
     let range = range_of_doors(door_from, door_to);
-    let mut hits = [0u16; 2048];
+    let mut hits = [0u16; MAX_CAPACITY];
     let Hits::Found(found) = find_hits(pool, cells, &range, &mut hits) else {
         return Written::Refused(Fault::BrokenLinks);
     };
@@ -34,7 +35,7 @@ pub fn write(pool: &[u16], door_from: u16, door_to: u16, bytes: &mut [u8]) -> Wr
     if bytes.len() < needed {
         return Written::Refused(Fault::BufferTooShort { needed });
     }
-    let mut sorted = [0u16; 2048];
+    let mut sorted = [0u16; MAX_CAPACITY];
     sort_cells(pool, &hits, found, &mut sorted);
     write_file(pool, &sorted, found, door_from, door_to, bytes);
     Written::Length(needed)

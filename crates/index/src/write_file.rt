@@ -12,7 +12,7 @@ ghost use Rattle.grants_file.specs.Block.{blockBytes, recordsPlace, recordsPerB
 ghost use Rattle.grants_file.specs.File.{blocksFor, chunk, fileOf};
 ghost use Rattle.index.specs.Hits.{CellsAt};
 ghost use Rattle.index.specs.WriteKeys.{recordsFile};
-use adt::node::wide;
+use adt::search::HitCells;
 use grants_file::block::BLOCK_BYTES;
 use grants_file::block::RECORDS_PER_BLOCK;
 use grants_file::block::RECORDS_PLACE;
@@ -24,9 +24,10 @@ use grants_file::write_block::seal;
 use grants_file::write_block::start_block;
 use grants_file::write_block::write_header;
 use pool::cell::grant_at;
+use pool::layout::wide;
 
 // The records of the grants in so many cells, from the first on.
-fn write_records(pool: &[u16], cells: &[u16; 2048], first: usize, count: usize, block: &mut [u8])
+fn write_records(pool: &[u16], cells: &HitCells, first: usize, count: usize, block: &mut [u8])
     requires { ⌜ CellsAt (now pool) (now cells) (first + count) × (count ≤ recordsPerBlock) × (length (now block) ≡ blockBytes) ⌝ }
     ensures { λ r. ⌜ now (block .exit) ≡ sets (now (block .entry)) recordsPlace (flatMap encodeRecord (map (grantAt (now (pool .entry))) (take count (drop first (now (cells .entry)))))) ⌝ }
 {
@@ -42,7 +43,7 @@ fn write_records(pool: &[u16], cells: &[u16; 2048], first: usize, count: usize, 
 }
 
 // A block of records, of a file of the grants in the first `total` cells.
-fn write_block(pool: &[u16], cells: &[u16; 2048], total: usize, number: usize, block: &mut [u8])
+fn write_block(pool: &[u16], cells: &HitCells, total: usize, number: usize, block: &mut [u8])
     requires { ⌜ CellsAt (now pool) (now cells) total × (0 < number) × (number < blocksFor total) × (length (now block) ≡ blockBytes) ⌝ }
     ensures { λ r. ⌜ now (block .exit) ≡ recordBlock number (chunk number (map (grantAt (now (pool .entry))) (take total (now (cells .entry))))) ⌝ }
 {
@@ -53,7 +54,7 @@ fn write_block(pool: &[u16], cells: &[u16; 2048], total: usize, number: usize, b
 }
 
 // The same at the start of longer bytes.
-fn write_first(pool: &[u16], cells: &[u16; 2048], total: usize, number: usize, bytes: &mut [u8])
+fn write_first(pool: &[u16], cells: &HitCells, total: usize, number: usize, bytes: &mut [u8])
     requires { ⌜ CellsAt (now pool) (now cells) total × (0 < number) × (number < blocksFor total) × (blockBytes ≤ length (now bytes)) ⌝ }
     ensures { λ r. ⌜ now (bytes .exit) ≡ recordBlock number (chunk number (map (grantAt (now (pool .entry))) (take total (now (cells .entry))))) ++ drop blockBytes (now (bytes .entry)) ⌝ }
 {
@@ -61,7 +62,7 @@ fn write_first(pool: &[u16], cells: &[u16; 2048], total: usize, number: usize, b
 }
 
 // The same at its place in the file.
-fn write_at(pool: &[u16], cells: &[u16; 2048], total: usize, number: usize, bytes: &mut [u8])
+fn write_at(pool: &[u16], cells: &HitCells, total: usize, number: usize, bytes: &mut [u8])
     requires { ⌜ CellsAt (now pool) (now cells) total × (0 < number) × (number < blocksFor total) × (blockBytes * blocksFor total ≤ length (now bytes)) ⌝ }
     ensures { λ r. ⌜ now (bytes .exit) ≡ take (blockBytes * number) (now (bytes .entry)) ++ (recordBlock number (chunk number (map (grantAt (now (pool .entry))) (take total (now (cells .entry))))) ++ drop (blockBytes * number + blockBytes) (now (bytes .entry))) ⌝ }
 {
@@ -75,7 +76,7 @@ fn write_at(pool: &[u16], cells: &[u16; 2048], total: usize, number: usize, byte
 }
 
 // The blocks of records, behind block 0.
-fn write_blocks(pool: &[u16], cells: &[u16; 2048], total: usize, blocks: usize, bytes: &mut [u8])
+fn write_blocks(pool: &[u16], cells: &HitCells, total: usize, blocks: usize, bytes: &mut [u8])
     requires { ⌜ CellsAt (now pool) (now cells) total × (blocks ≡ blocksFor total) × (blockBytes * blocksFor total ≤ length (now bytes)) ⌝ }
     ensures { λ r. ⌜ now (bytes .exit) ≡ overwrite (take blockBytes (now (bytes .entry)) ++ recordsFile (map (grantAt (now (pool .entry))) (take total (now (cells .entry)))) total) (now (bytes .entry)) ⌝ }
 {
@@ -97,7 +98,7 @@ fn write_front(total: usize, from: u16, to: u16, bytes: &mut [u8])
 // The file of the grants in the first `total` cells.
 pub fn write_file(
     pool: &[u16],
-    cells: &[u16; 2048],
+    cells: &HitCells,
     total: usize,
     from: u16,
     to: u16,

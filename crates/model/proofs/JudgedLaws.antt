@@ -1,11 +1,9 @@
 -- How a call that refuses by an order line is judged (specs/Refusal, specs/Judged).
---   firstOf-iff, noneOf-iff     FirstOf and NoneOf are what `firstFault` gives
 --   refusing-judged             a call that refuses by its line, and else is accepted, is judged by that line
 --   judged-same                 lines with the same first fault judge alike
 --   refusing-keeps-state        a call that leaves the state when it is accepted leaves it always
 -- Assumes nothing.
 use Prim.Native.Nat.{ℕ}
-use mathlib.Core.Logic.{_↔_}
 use mathlib.Core.Path.{_≡_, refl, sym, ap, _∙_}
 use mathlib.Core.Bool.{Bool, true, false, cond}
 use mathlib.Core.List.{List, [], _∷_}
@@ -34,9 +32,6 @@ fault-firstOf (c ∷ cs) f e = go (c .present) refl e (fault-firstOf cs f)
     go true p e rest = first-here p (Option·some-injective (c .fault) f e)
     go false p e rest = first-later p (rest e)
 
-pub firstOf-iff : (cs : List Cause) (f : Fault) → FirstOf cs f ↔ (firstFault cs ≡ some f)
-firstOf-iff cs f = (λ r. firstOf-fault r, fault-firstOf cs f)
-
 noneOf-none : {cs : List Cause} → NoneOf cs → firstFault cs ≡ none
 unfolding firstFault
 noneOf-none none-end = refl
@@ -50,9 +45,6 @@ none-noneOf (c ∷ cs) e = go (c .present) refl e (none-noneOf cs)
     go : (b : Bool) → c .present ≡ b → cond b (some (c .fault)) (firstFault cs) ≡ none → (firstFault cs ≡ none → NoneOf cs) → NoneOf (c ∷ cs)
     go true p e rest = absurd (none-some (sym e))
     go false p e rest = none-more p (rest e)
-
-pub noneOf-iff : (cs : List Cause) → NoneOf cs ↔ (firstFault cs ≡ none)
-noneOf-iff cs = (λ r. noneOf-none r, none-noneOf cs)
 
 module _ {S : Type 0} (cs : List Cause) (s : S) (lent : List ℕ) (done : Step S) where
   pub refusing-judged : (values : List ℕ) → done .answer ≡ accepted values → Judged cs s lent (refusing cs s lent done)

@@ -1,5 +1,6 @@
 -- The calls that demand 3's lists are made of (document 01, "The plain book"), with their arguments.
 --   Request     what grant is asked to add; its kind comes as a number, since a number above 1 is fault 4
+--   request     the request of these values
 --   Call        grant, revoke, list with its lent list, decide, count
 -- Assumes nothing: these are definitions.
 use Prim.Native.Nat.{ℕ}
@@ -13,6 +14,9 @@ pub record Request : Type 0 where
   pub rank : ℕ
   pub kind : ℕ
   pub bounds : Box
+
+abbrev pub request : ℕ → ℕ → ℕ → Box → Request
+request number rank kind bounds = record { number = number; rank = rank; kind = kind; bounds = bounds }
 
 -- the grant that an accepted request adds
 abbrev pub requested : Request → Grant

@@ -6,7 +6,6 @@
 --   SameGrantWords w v k        the words of cell k from the number on are the same in both
 --   grantAt-same                then the grant is the same
 --   grantAt-withCell-same       the grant that was stored, if it fits
---   grantAt-withCell-other, grantAt-set-link, grantAt-set-header     grants that other stores leave
 -- Assumes nothing.
 use Prim.Native.Nat.{ℕ, zero, suc, _+_, _*_, _/_, _%_, _<_, _≤_}
 use mathlib.Core.Path.{_≡_, refl, ap, _∙_}
@@ -25,7 +24,7 @@ use Rattle.pool.specs.declared.Field.the-variants.{Left, Number, RankKin
 use Rattle.pool.specs.Layout.{headerWords, cellWords, offset, place, fieldOf}
 use Rattle.pool.specs.Capacity.{poolLength}
 use Rattle.pool.specs.Cell.{grantAt, cellOf, withCell}
-use Rattle.pool.proofs.LayoutLaws.{offset-lt, place-past-header, field-set-other-field, field-set-header}
+use Rattle.pool.proofs.LayoutLaws.{offset-lt, place-past-header}
 
 -- reads after a run of stores
 getD-sets-other : (l : List ℕ) (i : ℕ) (vs : List ℕ) (j d : ℕ) → ((m : ℕ) → m < length vs → j ≢ i + m) → getD (sets l i vs) j d ≡ getD l j d
@@ -87,14 +86,3 @@ grantAt-withCell-same w c k l r g pos le long fits =
     let v = withCell w k (cellOf l r g) in
     let at : (f : Field) → fieldOf v k f ≡ getD (cellOf l r g) (offset f) 0 = λ f. field-withCell-same w k (cellOf l r g) refl c f pos le long in
     rw (at Number, at RankKind, at StaffFrom, at StaffTo, at DoorFrom, at DoorTo, at QuarterFrom, at QuarterTo, rank-word (g .rank) (g .kind) (fits .rank), kind-word (g .rank) (g .kind)) refl
-
-pub grantAt-withCell-other : (w : List ℕ) (j k : ℕ) (ws : List ℕ) → length ws ≡ cellWords → 0 < j → 0 < k → ¬ (j ≡ k)
-    → grantAt (withCell w k ws) j ≡ grantAt w j
-grantAt-withCell-other w j k ws ten hj hk n = grantAt-same w (withCell w k ws) j (λ f h. field-withCell-other w k ws ten j f hj hk n)
-
--- a store of a word before the number
-pub grantAt-set-link : (w : List ℕ) (j k : ℕ) (f : Field) (v : ℕ) → offset f < offset Number → grantAt (set w (place k f) v) j ≡ grantAt w j
-grantAt-set-link w j k f v h = grantAt-same w (set w (place k f) v) j (λ g i. field-set-other-field w j k f g v (omega arith))
-
-pub grantAt-set-header : (w : List ℕ) (i k v : ℕ) → i < headerWords → grantAt (set w i v) k ≡ grantAt w k
-grantAt-set-header w i k v h = grantAt-same w (set w i v) k (λ f j. field-set-header w i k f v h)

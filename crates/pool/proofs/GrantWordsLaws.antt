@@ -3,7 +3,6 @@
 --   slice-fieldWords          they are that part of the pool
 --   fieldWords-same           where the words are the same
 --   fieldWords-withCell       of a cell that was stored
---   grantAt-fieldWords        the grant that they are the words of, if it fits
 -- Assumes nothing.
 use Prim.Native.Nat.{ℕ, suc, _<_, _≤_}
 use mathlib.Core.Path.{_≡_, refl, ap, _∙_}
@@ -12,14 +11,13 @@ use native.Mathlib.Omega.{arith}
 use lib.ListN.{length, getD}
 use lib.Seq.{slice, slice-empty, slice-cons}
 use Rattle.model.specs.declared.Grant.{Grant}
-use Rattle.model.specs.Values.{GrantFits}
 use Rattle.pool.specs.declared.Field.{Field}
 use Rattle.pool.specs.declared.Field.the-variants.{Left, Number, RankKind, StaffFrom, StaffTo, DoorFrom, DoorTo, QuarterFrom, QuarterTo}
 use Rattle.pool.specs.Layout.{offset, place, fieldOf}
 use Rattle.pool.specs.Capacity.{poolLength}
-use Rattle.pool.specs.Cell.{grantAt, grantWords, cellOf, withCell}
+use Rattle.pool.specs.Cell.{grantWords, cellOf, withCell}
 use Rattle.pool.proofs.LayoutLaws.{offset-lt}
-use Rattle.pool.proofs.CellLaws.{SameGrantWords, field-withCell-same, rank-word, kind-word}
+use Rattle.pool.proofs.CellLaws.{SameGrantWords, field-withCell-same}
 
 abbrev pub fieldWords : List ℕ → ℕ → List ℕ
 fieldWords w k =
@@ -80,9 +78,3 @@ fieldWords-withCell w c k l r g pos le long =
     let v = withCell w k (cellOf l r g) in
     let at : (f : Field) → fieldOf v k f ≡ getD (cellOf l r g) (offset f) 0 = λ f. field-withCell-same w k (cellOf l r g) refl c f pos le long in
     rw (at Number, at RankKind, at StaffFrom, at StaffTo, at DoorFrom, at DoorTo, at QuarterFrom, at QuarterTo) refl
-
-pub grantAt-fieldWords : (w : List ℕ) (k : ℕ) (g : Grant) → fieldWords w k ≡ grantWords g → GrantFits g → grantAt w k ≡ g
-unfolding grantAt
-grantAt-fieldWords w k g e fits =
-    let word : (i : ℕ) → getD (fieldWords w k) i 0 ≡ getD (grantWords g) i 0 = λ i. ap (λ (ws : List ℕ). getD ws i 0) e in
-    rw (word 0, word 1, word 2, word 3, word 4, word 5, word 6, word 7, rank-word (g .rank) (g .kind) (fits .rank), kind-word (g .rank) (g .kind)) refl

@@ -3,9 +3,7 @@
 --   place-injective             two places of cells are equal only if cell and offset are
 --   place-past-header           a cell's place is none of the header's
 --   place-within                the places of cells 1 to c lie in a pool of c cells
---   field-set-same              a read of the field that was stored
---   field-set-other-cell, field-set-other-field, field-set-header    fields that other stores leave
---   header-set-cell             header words that a store into a cell leaves
+--   field-set-other-field, field-set-header    fields that other stores leave
 -- Assumes nothing.
 use Prim.Native.Nat.{ℕ, _+_, _-_, _*_, _/_, _%_, _<_, _≤_}
 use mathlib.Core.Path.{_≡_, sym, ap, _∙_}
@@ -54,14 +52,6 @@ pub place-within : (c k : ℕ) (f : Field) → 0 < k → k ≤ c → place k f <
 unfolding place
 place-within c k f hk hc = omega (arith, offset-lt f)
 
-pub field-set-same : (w : List ℕ) (k : ℕ) (f : Field) (v : ℕ) → place k f < length w → fieldOf (set w (place k f) v) k f ≡ v
-unfolding fieldOf
-field-set-same w k f v h = getD-set-same w (place k f) v 0 h
-
-pub field-set-other-cell : (w : List ℕ) (j k : ℕ) (f g : Field) (v : ℕ) → 0 < j → 0 < k → ¬ (j ≡ k) → fieldOf (set w (place k f) v) j g ≡ fieldOf w j g
-unfolding fieldOf
-field-set-other-cell w j k f g v hj hk n = getD-set-other w (place k f) (place j g) v 0 (λ e. n (place-injective j k g f hj hk e .0))
-
 pub field-set-other-field : (w : List ℕ) (j k : ℕ) (f g : Field) (v : ℕ) → ¬ (offset f ≡ offset g) → fieldOf (set w (place k f) v) j g ≡ fieldOf w j g
 unfolding fieldOf
 field-set-other-field w j k f g v n = getD-set-other w (place k f) (place j g) v 0 (λ e. n (sym (same-offset j k g f e)))
@@ -69,6 +59,3 @@ field-set-other-field w j k f g v n = getD-set-other w (place k f) (place j g) v
 pub field-set-header : (w : List ℕ) (i k : ℕ) (f : Field) (v : ℕ) → i < headerWords → fieldOf (set w i v) k f ≡ fieldOf w k f
 unfolding fieldOf
 field-set-header w i k f v h = getD-set-other w i (place k f) v 0 (omega (arith, place-past-header k f))
-
-pub header-set-cell : (w : List ℕ) (i k : ℕ) (f : Field) (v : ℕ) → i < headerWords → getD (set w (place k f) v) i 0 ≡ getD w i 0
-header-set-cell w i k f v h = getD-set-other w (place k f) i v 0 (omega (arith, place-past-header k f))

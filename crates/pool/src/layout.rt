@@ -20,7 +20,7 @@ pub const CELL_WORDS: usize = 10;
 // Document 01's highest C.
 pub const MAX_CAPACITY: usize = 2048;
 
-fn wide(x: u16) -> usize
+pub fn wide(x: u16) -> usize
     ensures { λ r. ⌜ (r ≡ x) × (r < 65536) ⌝ }
 {
     x as usize

@@ -13,6 +13,7 @@ use Rattle.model.specs.declared.Listed.{Listed}
 use Rattle.model.specs.declared.Decision.{Decision}
 use Rattle.model.specs.declared.Counted.{Counted}
 use Rattle.model.specs.Limits.{maxGrants}
+use Rattle.model.specs.Call.{request}
 use Rattle.model.specs.Answer.{outcomeAnswer, listedAnswer, decisionAnswer, countedAnswer}
 use Rattle.slip_text.specs.declared.Slip.{Slip}
 use Rattle.slip_text.specs.declared.Slip.the-variants as slip
@@ -35,7 +36,7 @@ module _ (w lent : List ℕ) {s : Slip} {text : List ℕ} where
   answered-bad e t = rw e (t, refl, refl)
 
   pub answered-grant : {number rank kind : ℕ} {bounds : Box} → s ≡ slip.Grant number rank kind bounds → {v : List ℕ} (o : Outcome)
-      → Leaves (outcomeAnswer o) v (grantCall w (record { number = number; rank = rank; kind = kind; bounds = bounds })) → text ≡ outcomeText o
+      → Leaves (outcomeAnswer o) v (grantCall w (request number rank kind bounds)) → text ≡ outcomeText o
       → Answered w lent s v lent text
   unfolding Answered
   answered-grant e o d t = rw e (record { value = o; stands = d .answered; says = t }, d .left, refl)

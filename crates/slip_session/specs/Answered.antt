@@ -7,6 +7,7 @@ use mathlib.Core.Path.{_≡_}
 use mathlib.Core.List.{List}
 use lib.ListN.{take}
 use Rattle.model.specs.Limits.{maxGrants}
+use Rattle.model.specs.Call.{request}
 use Rattle.model.specs.Answer.{Answer, outcomeAnswer, listedAnswer, decisionAnswer, countedAnswer}
 use Rattle.slip_text.specs.declared.Slip.{Slip}
 use Rattle.slip_text.specs.declared.Slip.the-variants as slip
@@ -21,7 +22,7 @@ pub record Says {A : Type 0} (answerOf : A → Answer) (textOf : A → List ℕ)
 
 unfoldable pub Answered : List ℕ → List ℕ → Slip → List ℕ → List ℕ → List ℕ → Type 0
 Answered w lent (slip.Grant number rank kind bounds) v list text =
-    let r = grantCall w (record { number = number; rank = rank; kind = kind; bounds = bounds }) in
+    let r = grantCall w (request number rank kind bounds) in
     Says outcomeAnswer outcomeText (r .answer) text × (v ≡ r .state) × (list ≡ lent)
 Answered w lent (slip.Revoke number) v list text =
     let r = revokeCall w number in

@@ -6,7 +6,6 @@
 --   value-numeral                 the value of a number's digits is the number
 --   number-numeral                they are one digit or more, and nothing else
 --   decimal-numeral               so a number that is printed is read again as itself
---   numeral-first                 and the first is no zero, unless the number is 0
 -- Assumes nothing.
 use Prim.Native.Nat.{ℕ, zero, suc, _+_, _-_, _*_, _/_, _%_, _^_, _<_, _≤_}
 use mathlib.Core.Path.{_≡_, refl, sym, ap, _∙_}
@@ -18,7 +17,7 @@ use native.Mathlib.Nat.{pow-suc, div-lt-iff-lt-mul}
 use native.Mathlib.Omega.{arith}
 use borrow.Author.Tests.{lt-ltb, le-ltb}
 use lib.Dec.{lit<}
-use lib.ListN.{length, getD, length-append}
+use lib.ListN.{length, length-append}
 use Rattle.lists.specs.Tests.{every}
 use Rattle.lists.proofs.TestLaws.{le-both}
 use Rattle.slip_text.specs.Decimal.{isDigit, isNumber, valueAfter, decimal, zeroDigit, nineDigit}
@@ -124,15 +123,3 @@ number-numeral n =
 pub decimal-numeral : (values n : ℕ) → n < values → decimal values (numeral n) ≡ some n
 unfolding decimal
 decimal-numeral values n h = rw (number-numeral n, value-numeral n, lt-ltb n values h)
-
-first-kept : (xs ys : List ℕ) → zeroDigit < getD xs 0 0 → zeroDigit < getD (xs ++ ys) 0 0
-first-kept [] ys h = absurd (omega arith)
-first-kept (x ∷ xs) ys h = h
-
-pub numeral-first : (n : ℕ) → 0 < n → zeroDigit < getD (numeral n) 0 0
-numeral-first n =
-    numeral-induct
-    (λ m ds. 0 < m → zeroDigit < getD ds 0 0)
-    (λ m h p. omega arith)
-    (λ m h e p. first-kept (numeral (m / 10)) (digit (m % 10) ∷ []) (e (omega arith)))
-    n

@@ -5,11 +5,12 @@ ghost use lib.ListN.{length};
 ghost use Rattle.slips.specs.Held.{HeldWithin};
 use libc::STDIN_FILENO;
 use libc::STDOUT_FILENO;
+use slip_session::LONGEST;
 use slip_session::answer;
 use slip_text::printing::LINE_BYTES;
 
 // So many bytes of a line are held: one more than the longest that can be a slip, so that a longer one is seen to be longer.
-const HELD: usize = 4097;
+const HELD: usize = LONGEST + 1;
 
 // The words of a pool of 2,048 cells.
 const WORDS: usize = 20483;

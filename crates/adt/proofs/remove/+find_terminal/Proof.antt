@@ -8,7 +8,7 @@ use borrow.Fn.PlainCycle.{Measures, is, falls, and}
 use Rattle.adt.proofs.remove.find_terminal.Reads as find-terminal
 use Rattle.adt.proofs.remove.find_terminal.Kinds as find-terminal-kinds
 use Rattle.adt.proofs.remove.+find_terminal.Lts-find_terminal as find-terminal-lts
-use Rattle.adt.proofs.node.wide.Reads as wide-reads
+use Rattle.pool.proofs.layout.wide.Reads as wide-reads
 use Rattle.adt.proofs.remove.next_link.Reads as next-link-reads
 use Rattle.adt.proofs.remove.+find_terminal.{statement}
 use Rattle.adt.proofs.remove.+find_terminal.Tie.{close}

@@ -17,7 +17,7 @@ use Rattle.adt.proofs.search.+enter+visit.Lts-enter as enter-lts
 use Rattle.adt.proofs.search.visit.Reads as visit
 use Rattle.adt.proofs.search.visit.Kinds as visit-kinds
 use Rattle.adt.proofs.search.+enter+visit.Lts-visit as visit-lts
-use Rattle.adt.proofs.node.wide.Reads as wide-reads
+use Rattle.pool.proofs.layout.wide.Reads as wide-reads
 use Rattle.adt.proofs.search.test.Reads as test-reads
 use Rattle.geometry.proofs.axis.axis_of.Reads as axis-of-reads
 use Rattle.geometry.proofs.region.half_meets.Reads as half-meets-reads
