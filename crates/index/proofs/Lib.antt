@@ -22,8 +22,5 @@ pub mod LookSteps
 pub mod CountSteps
 pub mod NumberLaws
 pub mod ListSteps
-pub mod SortedCellLaws
-pub mod WriteFileLaws
-pub mod WriteSteps
 pub mod DecideLaws
 pub mod DecideSteps

@@ -9,4 +9,3 @@ pub mod Contract
 pub mod NumberSearch
 pub mod Plans
 pub mod Hits
-pub mod WriteKeys

@@ -1,0 +1,91 @@
+-- `write_file::write_records` meets its contract. The invariant: the first i records are stored. Assumes nothing.
+use Prim.Native.Nat.{_-_, _≤_}
+use mathlib.Core.Path.{_≡_, refl, _∙_}
+use mathlib.Core.List.{flatMap}
+use native.Mathlib.Omega.{arith}
+use lib.ListN.{length}
+use lib.Seq.{sets}
+use Rattle.grants_file.specs.Record.{encodeRecord}
+use Rattle.grants_file.specs.Block.{blockBytes, recordsPlace}
+use Rattle.index.proofs.HitsLaws.{cell-hit}
+use Rattle.file_calls.proofs.WriteFileLaws.{grantsFrom, records-none, records-more}
+use borrow.Author.Needs.{needs}
+use Rattle.file_calls.proofs.write_file.write_records.Statement.{statement}
+use Rattle.file_calls.proofs.write_file.write_records.Tie as tie
+
+abbrev Inv-loop : tie.InvT-loop
+Inv-loop pool cells first count block₀ i₀ block i = (i ≤ count) × (length block ≡ length block₀) × (length block ≡ blockBytes) × (block ≡ sets block₀ recordsPlace (flatMap encodeRecord (grantsFrom pool cells first i)))
+
+abbrev μ-loop : tie.MeasureT-loop
+μ-loop pool cells first count block₀ i₀ block i = count - i
+
+loop-holds : tie.Need-loop-holds Inv-loop μ-loop
+loop-holds c = (omega arith, refl, c .before .before .pre .2, records-none (c .before .before .args .pool .now) (c .before .before .args .cells .now) (c .before .before .args .first) _)
+
+mul-encode-record : tie.Need-mul-encode-record Inv-loop μ-loop
+mul-encode-record c = search needs
+
+add-encode-record : tie.Need-add-encode-record Inv-loop μ-loop
+add-encode-record c = search needs
+
+add-wide : tie.Need-add-wide Inv-loop μ-loop
+add-wide c = let start = c .before .before .before .before .before in omega (arith, start .pre .0 .few)
+
+mul-wide : tie.Need-mul-wide Inv-loop μ-loop
+mul-wide c = search needs
+
+element-copy-out-wide : tie.Need-element-copy-out-wide Inv-loop μ-loop
+element-copy-out-wide c = let start = c .before .before .before .before .before in omega (arith, start .pre .0 .few, start .pre .0 .room)
+
+wide-requires : tie.Need-wide-requires Inv-loop μ-loop
+wide-requires c κs = search needs
+
+grant-at-requires : tie.Need-grant-at-requires Inv-loop μ-loop
+grant-at-requires c κs = cell-hit (c .before .before .before .before .before .before .before .pre .0) (omega arith) (c .wide .ensures .0)
+
+encode-record-requires : tie.Need-encode-record-requires Inv-loop μ-loop
+encode-record-requires c κs = let at = c .before .before .before .before .before in omega (arith, at .loop .inv .2, at .before .before .before .pre .1)
+
+add-i : tie.Need-add-i Inv-loop μ-loop
+add-i c = search needs
+
+loop-less : tie.Need-loop-less Inv-loop μ-loop
+loop-less c = search needs
+
+loop-again : tie.Need-loop-again Inv-loop μ-loop
+loop-again c =
+    let wrote = c .before .before in
+    let at = wrote .before .before .before .before .before .before in
+    let start = at .before .before .before in
+    let l = at .loop in
+    (omega arith, wrote .encode-record .kept .0 ∙ l .inv .1, wrote .encode-record .kept .0 ∙ l .inv .2, records-more (start .args .pool .now) (start .args .cells .now) _ (start .args .first) (l .i) (omega (arith, start .pre .0 .few, start .pre .0 .room)) (wrote .before .before .wide .ensures .0) (wrote .before .grant-at .ensures) (l .inv .3) (wrote .encode-record .ensures))
+
+same-length : tie.Need-same-length Inv-loop μ-loop
+same-length c = c .before .loop .inv .1
+
+returns : tie.Need-returns Inv-loop μ-loop
+returns c =
+    let l = c .before .loop in
+    let same : l .i ≡ c .before .before .before .before .args .count = omega arith in
+    rw same at (l .inv .3)
+
+pub write-records-spec : {M : Type 1} → statement M
+write-records-spec =
+    tie.close
+    (tie.spec
+    Inv-loop
+    μ-loop
+    loop-holds
+    mul-encode-record
+    add-encode-record
+    add-wide
+    mul-wide
+    element-copy-out-wide
+    wide-requires
+    grant-at-requires
+    encode-record-requires
+    add-i
+    loop-less
+    loop-again
+    same-length
+    returns)
