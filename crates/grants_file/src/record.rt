@@ -24,7 +24,7 @@ fn kind_of(number: u8) -> Kind
     if number == 1 { Kind::Opens } else { Kind::Bars }
 }
 
-fn kind_number(kind: Kind) -> u8
+pub fn kind_number(kind: Kind) -> u8
     ensures { λ r. ⌜ r ≡ kindNumber kind ⌝ }
 {
     match kind {
