@@ -4,8 +4,8 @@ ghost use mathlib.Core.List.{[], _∷_, _++_};
 ghost use Rattle.model.specs.Kind.{kindNumber};
 ghost use Rattle.model.specs.Grant.{grantValues};
 ghost use Rattle.model.specs.Fault.{faultNumber, faultValues};
-ghost use Rattle.model.specs.Answer.{outcomeAnswer, listedAnswer, decisionAnswer, countedAnswer};
-ghost use Rattle.c_api.specs.Pack.{word, firstOf, packRefusal, pack, packPair};
+ghost use Rattle.model.specs.Answer.{outcomeAnswer, listedAnswer, decisionAnswer, countedAnswer, writtenAnswer, matchedAnswer};
+ghost use Rattle.c_api.specs.Pack.{word, firstOf, packRefusal, pack, packPair, packLength};
 ghost use Rattle.c_api.specs.Contract.{PacksOut};
 use model::Counted;
 use model::Decision;
@@ -13,7 +13,9 @@ use model::Fault;
 use model::Grant;
 use model::Kind;
 use model::Listed;
+use model::Matched;
 use model::Outcome;
+use model::Written;
 
 // Bits 0 to 7 the number, 8 to 31 `a`, 32 to 63 `b`.
 pub fn word(number: u64, a: u64, b: u64) -> u64
@@ -101,6 +103,25 @@ pub fn pack_counted(counted: Counted) -> u64
     match counted {
         Counted::Cells { live, free } => word(0, live as u64, free as u64),
         Counted::Refused(fault) => pack_fault(fault),
+    }
+}
+
+pub fn pack_written(written: Written) -> u64
+    ensures { λ r. ⌜ r ≡ packLength (writtenAnswer written) ⌝ }
+{
+    match written {
+        Written::Length(length) => word(0, 0, length as u64),
+        Written::Refused(fault) => pack_fault(fault),
+    }
+}
+
+pub fn pack_matched(matched: Matched) -> u64
+    ensures { λ r. ⌜ r ≡ pack (matchedAnswer matched) ⌝ }
+{
+    match matched {
+        Matched::Equal => word(0, 0, 0),
+        Matched::Differs(number) => word(0, number as u64, 0),
+        Matched::Refused(fault) => pack_fault(fault),
     }
 }
 
