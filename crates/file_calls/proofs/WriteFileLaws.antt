@@ -6,18 +6,17 @@
 --   part-written, length-rest    what follows a place in the bytes, with a block at its start
 --   file-written       block 0 and the blocks of records are the file
 -- Assumes nothing.
-use Prim.Native.Nat.{ℕ, zero, suc, _+_, _-_, _*_, _<_, _≤_, min}
+use Prim.Native.Nat.{ℕ, zero, suc, _+_, _-_, _*_, _<_, _≤_}
 use mathlib.Core.Path.{_≡_, refl, sym, ap, _∙_}
 use mathlib.Core.List.{List, [], _∷_, _++_, map, flatMap, map-append, append-nil, append-assoc}
 use native.Mathlib.Numerals.{add-one, one-add}
 use native.Mathlib.Omega.{arith}
-use native.Mathlib.Decide.{decLe}
 use lib.ListN.{length, take, drop, getD, length-map, length-take, length-drop, length-append, take-append-drop, drop-of-length-le}
-use lib.Seq.{sets, take-suc, take-take, take-all, take-at, drop-at, drop-drop, getD-drop, length-take-le, take-nil, drop-append-add}
+use lib.Seq.{sets, take-suc, take-at, drop-at, drop-drop, getD-drop, length-take-le, drop-append-add}
 use Rattle.lists.specs.Overwrite.{overwrite}
 use Rattle.lists.specs.Ranges.{countFrom}
 use Rattle.lists.proofs.RangeLaws.{length-countFrom}
-use Rattle.lists.proofs.ListLaws.{countFrom-append, flatMap-append, length-flatMap, map-take, map-drop}
+use Rattle.lists.proofs.ListLaws.{drop-take, take-min, countFrom-append, flatMap-append, length-flatMap, map-take, map-drop}
 use Rattle.model.specs.declared.Grant.{Grant}
 use Rattle.model.specs.Limits.{maxGrants}
 use Rattle.model.specs.Interval.{Interval}
@@ -66,22 +65,6 @@ module _ (w cells : List ℕ) where
       d
       ∙ rw s (sets-append b recordsPlace (flatMap encodeRecord gs) (encodeRecord g) (recordsPlace + recordBytes * i) (omega (arith, size, count)))
       ∙ ap (sets b recordsPlace) more
-
-drop-take : (n m : ℕ) (l : List ℕ) → drop n (take m l) ≡ take (m - n) (drop n l)
-drop-take zero m l = let whole : m - 0 ≡ m = omega arith in rw whole
-drop-take (suc n) zero l = let none : 0 - suc n ≡ 0 = omega arith in rw none
-drop-take (suc n) (suc m) [] = sym (take-nil (suc m - suc n))
-drop-take (suc n) (suc m) (x ∷ l) = let same : suc m - suc n ≡ m - n = omega arith in rw same (drop-take n m l)
-
-take-min : (a b : ℕ) (l : List ℕ) → take a (take b l) ≡ take (min a b) l
-take-min a b l = go (decLe a b)
-  where
-    go : Dec (a ≤ b) → take a (take b l) ≡ take (min a b) l
-    go (yes h) = let least : min a b ≡ a = omega arith in take-take a b l h ∙ rw least
-    go (no n) =
-        let least : min a b ≡ b = omega arith in
-        let size : length (take b l) ≡ min b (length l) = length-take b l in
-        take-all a (take b l) (omega (arith, size)) ∙ rw least
 
 pub cells-fewer : {w cells : List ℕ} {n m : ℕ} → CellsAt w cells n → m ≤ n → CellsAt w cells m
 cells-fewer at h = record { room = at .room; few = omega (arith, at .few); cell = λ i lt. at .cell i (omega arith) }

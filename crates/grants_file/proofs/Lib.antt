@@ -12,5 +12,6 @@ pub mod BlockSteps
 pub mod FileSteps
 pub mod BlockReadSteps
 pub mod VerdictSteps
+pub mod GrantSteps
 pub mod WriteBlockSteps
 pub mod SetLaws

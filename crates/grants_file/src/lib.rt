@@ -4,6 +4,7 @@ pub mod block;
 pub mod block_read;
 pub mod bytes;
 pub mod file;
+pub mod grants;
 pub mod record;
 pub mod verdict;
 pub mod write_block;

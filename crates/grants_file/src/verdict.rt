@@ -4,7 +4,7 @@ ghost use mathlib.Core.Path.{_≡_};
 ghost use Prim.Native.Nat.{_<_, _≤_};
 ghost use Rattle.model.specs.Answer.{outcomeAnswer};
 ghost use Rattle.grants_file.specs.Block.{recordsPerBlock};
-ghost use Rattle.grants_file.specs.File.{blocksFor, countIn, blocksIn, totalIn};
+ghost use Rattle.grants_file.specs.File.{blocksFor, countIn, blocksIn};
 ghost use Rattle.grants_file.specs.Verdict.{maxBlocks, wrongHeader, wrongLayout, lastBefore, wrongRecordsIn};
 ghost use Rattle.grants_file.specs.Answers.{blockAnswer, outcomeOf, fileAnswer};
 use crate::BlockAnswer;
@@ -13,7 +13,6 @@ use crate::block::LAST_RECORD;
 use crate::block::RECORDS_PER_BLOCK;
 use crate::block::RECORDS_PLACE;
 use crate::block::count_of;
-use crate::block::wide;
 use crate::block::wrong_checksum;
 use crate::block::wrong_padding;
 use crate::block::wrong_records;
@@ -22,27 +21,15 @@ use crate::bytes::be16_at;
 use crate::file::block_at;
 use crate::file::blocks_in;
 use crate::file::wrong_block_count;
+use crate::grants::first_door;
+use crate::grants::last_door;
+use crate::grants::total_in;
 use crate::record::RECORD_BYTES;
 use model::Fault;
 use model::Outcome;
 
 // Document 01's highest n.
 const MAX_GRANTS: usize = 2048;
-
-// Where block 0 has n and the doors.
-const TOTAL_PLACE: usize = 6;
-
-const FROM_PLACE: usize = 8;
-
-const TO_PLACE: usize = 10;
-
-// Document 01's n.
-fn total_in(file: &[u8]) -> usize
-    requires { ⌜ 0 < blocksIn (now file) ⌝ }
-    ensures { λ r. ⌜ (r ≡ totalIn (now (file .entry))) × (r < 65536) ⌝ }
-{
-    wide(be16_at(file, TOTAL_PLACE))
-}
 
 // The blocks of a file of so many grants.
 pub fn blocks_for(total: usize) -> usize
@@ -85,8 +72,8 @@ fn wrong_header(file: &[u8]) -> bool
     if blocks_in(file) != blocks_for(total) {
         return true;
     }
-    let from = be16_at(file, FROM_PLACE);
-    let to = be16_at(file, TO_PLACE);
+    let from = first_door(file);
+    let to = last_door(file);
     if to < from {
         return true;
     }
@@ -116,8 +103,8 @@ fn wrong_records_in(file: &[u8], number: usize, last: u16) -> bool
     ensures { λ r. ⌜ r ≡ wrongRecordsIn (now (file .entry)) number ⌝ }
 {
     let count = count_in(total_in(file), number);
-    let from = be16_at(file, FROM_PLACE);
-    let to = be16_at(file, TO_PLACE);
+    let from = first_door(file);
+    let to = last_door(file);
     wrong_records(block_at(file, number), count, from, to, last)
 }
 

@@ -1,4 +1,5 @@
 -- Laws of lists joined from parts, of parts taken out again, and of runs.
+--   drop-take, take-min                a rest of a front, and a front of a front
 --   map-same, flatMap-same             functions that agree on the elements make the same list
 --   map-inverse                        a function undone on each element
 --   map-take, map-drop                 a front and a rest of a made list
@@ -14,20 +15,38 @@
 --   sameNumbers-true, sameNumbers-same lists that the test finds equal are equal, and it finds a list equal to itself
 --   every-zero, zero-every             a list passes as zeros exactly if it is zeros
 -- Assumes nothing.
-use Prim.Native.Nat.{ℕ, zero, suc, _+_, _*_, _≤_, _<_}
+use Prim.Native.Nat.{ℕ, zero, suc, _+_, _-_, _*_, _≤_, _<_, min}
 use mathlib.Core.Path.{_≡_, refl, sym, ap, ap₂, _∙_}
 use mathlib.Core.Logic.{_⊎_, inl, inr}
 use mathlib.Core.Bool.{true, and-eq-true-iff, false≢true}
 use mathlib.Core.List.{List, [], _∷_, _++_, map, flatMap, append-nil, append-assoc, map-map, map-append, List·Memᴰ, List·Memᴰ·head, List·Memᴰ·tail, List·Memᴰ·not-nil, List·Memᴰ·append-cases}
 use native.Mathlib.Nat.{mul-suc, mul-zero, add-zero, zero-add, add-suc, suc-add, add-comm}
 use native.Mathlib.Omega.{arith}
+use native.Mathlib.Decide.{decLe}
 use borrow.Author.Tests.{eqb-true, eq-eqb}
 use lib.Dec.{eqb}
-use lib.ListN.{replicate, length, getD, take, drop, length-append}
-use lib.Seq.{drop-cons, take-all, take-add, drop-drop, drop-at, take-at}
+use lib.ListN.{replicate, length, getD, take, drop, length-append, length-take}
+use lib.Seq.{drop-cons, take-nil, take-take, take-all, take-add, drop-drop, drop-at, take-at}
 use Rattle.lists.specs.Tests.{every, sameNumbers}
 use Rattle.lists.specs.Ranges.{countFrom}
 use Rattle.lists.proofs.RangeLaws.{length-countFrom}
+
+module _ {A : Type 0} where
+  pub drop-take : (n m : ℕ) (l : List A) → drop n (take m l) ≡ take (m - n) (drop n l)
+  drop-take zero m l = let whole : m - 0 ≡ m = omega arith in rw whole
+  drop-take (suc n) zero l = let none : 0 - suc n ≡ 0 = omega arith in rw none
+  drop-take (suc n) (suc m) [] = sym (take-nil (suc m - suc n))
+  drop-take (suc n) (suc m) (x ∷ l) = let same : suc m - suc n ≡ m - n = omega arith in rw same (drop-take n m l)
+
+  pub take-min : (a b : ℕ) (l : List A) → take a (take b l) ≡ take (min a b) l
+  take-min a b l = go (decLe a b)
+    where
+      go : Dec (a ≤ b) → take a (take b l) ≡ take (min a b) l
+      go (yes h) = let least : min a b ≡ a = omega arith in take-take a b l h ∙ rw least
+      go (no n) =
+          let least : min a b ≡ b = omega arith in
+          let size : length (take b l) ≡ min b (length l) = length-take b l in
+          take-all a (take b l) (omega (arith, size)) ∙ rw least
 
 pub map-same : {A B : Type 0} (f g : A → B) (xs : List A) → ((x : A) → List·Memᴰ x xs → f x ≡ g x) → map f xs ≡ map g xs
 map-same f g [] h = refl

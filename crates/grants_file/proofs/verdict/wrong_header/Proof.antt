@@ -33,16 +33,16 @@ returns-3 c =
     let start = rw (c .before .before .before .before .before .before .before .block-at .ensures .0) at (sym (c .before .before .before .before .before .if1 .left) ∙ c .before .before .before .before .before .before .wrong-start .ensures) in
     header-count _ start (rw (← c .before .before .before .before .total-in .ensures .0) (c .before .before .before .if2 .left)) (rw (← c .before .before .before .before .total-in .ensures .0, ← c .before .blocks-for .ensures, ← c .before .before .blocks-in .ensures) (c .if3 .taken))
 
-be16-at-requires : tie.Need-be16-at-requires
-be16-at-requires c κs = search needs
+first-door-requires : tie.Need-first-door-requires
+first-door-requires c κs = search needs
 
-be16-at-requires-2 : tie.Need-be16-at-requires-2
-be16-at-requires-2 c κs = search needs
+last-door-requires : tie.Need-last-door-requires
+last-door-requires c κs = search needs
 
 returns-4 : tie.Need-returns-4
 returns-4 c =
     let start = rw (c .before .before .before .before .before .before .before .before .before .before .block-at .ensures .0) at (sym (c .before .before .before .before .before .before .before .before .if1 .left) ∙ c .before .before .before .before .before .before .before .before .before .wrong-start .ensures) in
-    header-doors _ start (rw (← c .before .before .before .before .before .before .before .total-in .ensures .0) (c .before .before .before .before .before .before .if2 .left)) (rw (← c .before .before .before .before .before .before .before .total-in .ensures .0, ← c .before .before .before .before .blocks-for .ensures, ← c .before .before .before .before .before .blocks-in .ensures) (c .before .before .before .if3 .left)) (rw (← c .before .be16-at2 .ensures, ← c .before .before .be16-at .ensures) (c .if4 .taken))
+    header-doors _ start (rw (← c .before .before .before .before .before .before .before .total-in .ensures .0) (c .before .before .before .before .before .before .if2 .left)) (rw (← c .before .before .before .before .before .before .before .total-in .ensures .0, ← c .before .before .before .before .blocks-for .ensures, ← c .before .before .before .before .before .blocks-in .ensures) (c .before .before .before .if3 .left)) (rw (← c .before .last-door .ensures, ← c .before .before .first-door .ensures) (c .if4 .taken))
 
 wrong-padding-requires : tie.Need-wrong-padding-requires
 wrong-padding-requires c κs = search needs
@@ -50,7 +50,7 @@ wrong-padding-requires c κs = search needs
 returns-5 : tie.Need-returns-5
 returns-5 c =
     let start = rw (c .before .before .before .before .before .before .before .before .before .before .before .block-at .ensures .0) at (sym (c .before .before .before .before .before .before .before .before .before .if1 .left) ∙ c .before .before .before .before .before .before .before .before .before .before .wrong-start .ensures) in
-    rw (c .wrong-padding .ensures, c .before .before .before .before .before .before .before .before .before .before .before .block-at .ensures .0) (header-left _ start (rw (← c .before .before .before .before .before .before .before .before .total-in .ensures .0) (c .before .before .before .before .before .before .before .if2 .left)) (rw (← c .before .before .before .before .before .before .before .before .total-in .ensures .0, ← c .before .before .before .before .before .blocks-for .ensures, ← c .before .before .before .before .before .before .blocks-in .ensures) (c .before .before .before .before .if3 .left)) (rw (← c .before .before .be16-at2 .ensures, ← c .before .before .before .be16-at .ensures) (c .before .if4 .left)))
+    rw (c .wrong-padding .ensures, c .before .before .before .before .before .before .before .before .before .before .before .block-at .ensures .0) (header-left _ start (rw (← c .before .before .before .before .before .before .before .before .total-in .ensures .0) (c .before .before .before .before .before .before .before .if2 .left)) (rw (← c .before .before .before .before .before .before .before .before .total-in .ensures .0, ← c .before .before .before .before .before .blocks-for .ensures, ← c .before .before .before .before .before .before .blocks-in .ensures) (c .before .before .before .before .if3 .left)) (rw (← c .before .before .last-door .ensures, ← c .before .before .before .first-door .ensures) (c .before .if4 .left)))
 
 pub wrong-header-spec : {M : Type 1} → statement M
 wrong-header-spec =
@@ -64,8 +64,8 @@ wrong-header-spec =
     blocks-in-requires
     blocks-for-requires
     returns-3
-    be16-at-requires
-    be16-at-requires-2
+    first-door-requires
+    last-door-requires
     returns-4
     wrong-padding-requires
     returns-5)

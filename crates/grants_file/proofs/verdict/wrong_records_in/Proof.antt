@@ -10,11 +10,11 @@ total-in-requires c κs = search needs
 count-in-requires : tie.Need-count-in-requires
 count-in-requires c κs = search needs
 
-be16-at-requires : tie.Need-be16-at-requires
-be16-at-requires c κs = search needs
+first-door-requires : tie.Need-first-door-requires
+first-door-requires c κs = search needs
 
-be16-at-requires-2 : tie.Need-be16-at-requires-2
-be16-at-requires-2 c κs = search needs
+last-door-requires : tie.Need-last-door-requires
+last-door-requires c κs = search needs
 
 block-at-requires : tie.Need-block-at-requires
 block-at-requires c κs = search needs
@@ -24,7 +24,7 @@ wrong-records-requires c κs = search needs
 
 returns : tie.Need-returns
 unfolding wrongRecordsIn
-returns c = rw (c .wrong-records .ensures, c .before .before .before .before .before .before .before .pre .3, c .before .before .be16-at2 .ensures, c .before .before .before .be16-at .ensures, c .before .before .before .before .count-in .ensures .0, c .before .before .before .before .before .total-in .ensures .0, c .before .block-at .ensures .0)
+returns c = rw (c .wrong-records .ensures, c .before .before .before .before .before .before .before .pre .3, c .before .before .last-door .ensures, c .before .before .before .first-door .ensures, c .before .before .before .before .count-in .ensures .0, c .before .before .before .before .before .total-in .ensures .0, c .before .block-at .ensures .0)
 
 pub wrong-records-in-spec : {M : Type 1} → statement M
 wrong-records-in-spec =
@@ -32,8 +32,8 @@ wrong-records-in-spec =
     (tie.spec
     total-in-requires
     count-in-requires
-    be16-at-requires
-    be16-at-requires-2
+    first-door-requires
+    last-door-requires
     block-at-requires
     wrong-records-requires
     returns)
