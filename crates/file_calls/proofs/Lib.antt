@@ -2,3 +2,5 @@
 pub mod SortedCellLaws
 pub mod WriteFileLaws
 pub mod WriteSteps
+pub mod DifferenceLaws
+pub mod MatchSteps

@@ -12,7 +12,7 @@ use mathlib.Core.List.{List, [], _∷_, _++_, map, flatMap, map-append, append-n
 use native.Mathlib.Numerals.{add-one, one-add}
 use native.Mathlib.Omega.{arith}
 use lib.ListN.{length, take, drop, getD, length-map, length-take, length-drop, length-append, take-append-drop, drop-of-length-le}
-use lib.Seq.{sets, take-suc, take-at, drop-at, drop-drop, getD-drop, length-take-le, drop-append-add}
+use lib.Seq.{sets, take-suc, take-all, take-at, drop-at, drop-drop, getD-drop, length-take-le, drop-append-add}
 use Rattle.lists.specs.Overwrite.{overwrite}
 use Rattle.lists.specs.Ranges.{countFrom}
 use Rattle.lists.proofs.RangeLaws.{length-countFrom}
