@@ -3,3 +3,5 @@ pub mod LoadSteps
 pub mod SortedCellLaws
 pub mod WriteFileLaws
 pub mod WriteSteps
+pub mod DifferenceLaws
+pub mod MatchSteps

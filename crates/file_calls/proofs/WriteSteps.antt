@@ -34,7 +34,7 @@ use Rattle.index.specs.FileCalls.{touchingGrants, writeCall}
 use Rattle.file_calls.specs.WriteKeys.{numberIn}
 use Rattle.index.specs.Contract.{Lends}
 use Rattle.index.proofs.HitsLaws.{broken-search, found-hits, length-hits}
-use Rattle.file_calls.proofs.SortedCellLaws.{grants-sorted}
+use Rattle.file_calls.proofs.SortedCellLaws.{touching-sorted}
 use Rattle.index.proofs.RefusalSteps.{refusedBy, first-holds, first-fails, none-left, lends-as, pool-refused, pool-taken}
 
 module _ (w : List ℕ) (doors : Interval) (lent : List ℕ) where
@@ -106,8 +106,7 @@ module _ (w : List ℕ) (doors : Interval) (lent : List ℕ) where
               → bytes ≡ overwrite (fileOf doors (map (grantAt w) (take found cells))) lent
               → Lends (accepted (needed ∷ [])) bytes (writeCall w doors lent)
           write-done room cells sorted file =
-              let grants : map (grantAt w) (take found cells) ≡ touchingGrants w doors =
-              ap (map (grantAt w)) sorted ∙ grants-sorted w (take found h) ∙ ap (λ (l : List ℕ). sortBy (λ (g : Grant). g .number) (map (grantAt w) l)) (sym (at .found)) in
+              let grants = touching-sorted w doors h at cells sorted in
               let done = lends-as (done-step right (le-ltb _ _ forward) (at .unbroken) (omega (arith, exact))) in
               record {
                 answered = ap (λ (k : ℕ). accepted (k ∷ [])) (sym exact) ∙ done .answered;

@@ -33,11 +33,8 @@ fn write_records(pool: &[u16], cells: &HitCells, first: usize, count: usize, blo
 {
     let mut i: usize = 0;
     while i < count {
-        encode_record(
-            block,
-            RECORDS_PLACE + RECORD_BYTES * i,
-            grant_at(pool, wide(cells[first + i])),
-        );
+        let g = grant_at(pool, wide(cells[first + i]));
+        encode_record(block, RECORDS_PLACE + RECORD_BYTES * i, g);
         i += 1;
     }
 }

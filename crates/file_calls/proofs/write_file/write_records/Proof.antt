@@ -22,26 +22,26 @@ abbrev μ-loop : tie.MeasureT-loop
 loop-holds : tie.Need-loop-holds Inv-loop μ-loop
 loop-holds c = (omega arith, refl, c .before .before .pre .2, records-none (c .before .before .args .pool .now) (c .before .before .args .cells .now) (c .before .before .args .first) _)
 
-mul-encode-record : tie.Need-mul-encode-record Inv-loop μ-loop
-mul-encode-record c = search needs
-
-add-encode-record : tie.Need-add-encode-record Inv-loop μ-loop
-add-encode-record c = search needs
-
 add-wide : tie.Need-add-wide Inv-loop μ-loop
-add-wide c = let start = c .before .before .before .before .before in omega (arith, start .pre .0 .few)
+add-wide c = let start = c .before .before .before .before in omega (arith, start .pre .0 .few)
 
 mul-wide : tie.Need-mul-wide Inv-loop μ-loop
 mul-wide c = search needs
 
 element-copy-out-wide : tie.Need-element-copy-out-wide Inv-loop μ-loop
-element-copy-out-wide c = let start = c .before .before .before .before .before in omega (arith, start .pre .0 .few, start .pre .0 .room)
+element-copy-out-wide c = let start = c .before .before .before .before in omega (arith, start .pre .0 .few, start .pre .0 .room)
 
 wide-requires : tie.Need-wide-requires Inv-loop μ-loop
 wide-requires c κs = search needs
 
 grant-at-requires : tie.Need-grant-at-requires Inv-loop μ-loop
-grant-at-requires c κs = cell-hit (c .before .before .before .before .before .before .before .pre .0) (omega arith) (c .wide .ensures .0)
+grant-at-requires c κs = cell-hit (c .before .before .before .before .before .before .pre .0) (omega arith) (c .wide .ensures .0)
+
+mul-encode-record : tie.Need-mul-encode-record Inv-loop μ-loop
+mul-encode-record c = search needs
+
+add-encode-record : tie.Need-add-encode-record Inv-loop μ-loop
+add-encode-record c = search needs
 
 encode-record-requires : tie.Need-encode-record-requires Inv-loop μ-loop
 encode-record-requires c κs = let at = c .before .before .before .before .before in omega (arith, at .loop .inv .2, at .before .before .before .pre .1)
@@ -55,10 +55,11 @@ loop-less c = search needs
 loop-again : tie.Need-loop-again Inv-loop μ-loop
 loop-again c =
     let wrote = c .before .before in
-    let at = wrote .before .before .before .before .before .before in
+    let read = wrote .before .before in
+    let at = read .before .before .before .before in
     let start = at .before .before .before in
     let l = at .loop in
-    (omega arith, wrote .encode-record .kept .0 ∙ l .inv .1, wrote .encode-record .kept .0 ∙ l .inv .2, records-more (start .args .pool .now) (start .args .cells .now) _ (start .args .first) (l .i) (omega (arith, start .pre .0 .few, start .pre .0 .room)) (wrote .before .before .wide .ensures .0) (wrote .before .grant-at .ensures) (l .inv .3) (wrote .encode-record .ensures))
+    (omega arith, wrote .encode-record .kept .0 ∙ l .inv .1, wrote .encode-record .kept .0 ∙ l .inv .2, records-more (start .args .pool .now) (start .args .cells .now) _ (start .args .first) (l .i) (omega (arith, start .pre .0 .few, start .pre .0 .room)) (read .before .wide .ensures .0) (read .grant-at .ensures) (l .inv .3) (wrote .encode-record .ensures))
 
 same-length : tie.Need-same-length Inv-loop μ-loop
 same-length c = c .before .loop .inv .1
@@ -76,13 +77,13 @@ write-records-spec =
     Inv-loop
     μ-loop
     loop-holds
-    mul-encode-record
-    add-encode-record
     add-wide
     mul-wide
     element-copy-out-wide
     wide-requires
     grant-at-requires
+    mul-encode-record
+    add-encode-record
     encode-record-requires
     add-i
     loop-less

@@ -1,0 +1,85 @@
+-- What match answers, test by test.
+--   file-taken                             a file whose verdict is that it is done is accepted
+--   match-bad, match-file, match-broken    the refusals, in their order: the pool's, the file's, the search's
+--   match-done                             equal, or where the sorted grants of the hits and the file's differ first
+-- Assumes nothing.
+use Prim.Native.Nat.{ℕ}
+use mathlib.Core.Path.{_≡_, sym, ap, ap₂, _∙_}
+use mathlib.Core.Bool.{false}
+use mathlib.Core.List.{List, [], _∷_, _++_, map}
+use mathlib.Core.Option.{Option}
+use lib.ListN.{take}
+use Rattle.lists.specs.Sort.{sortBy}
+use Rattle.model.specs.declared.Grant.{Grant}
+use Rattle.model.specs.declared.Fault.{Fault}
+use Rattle.model.specs.declared.Fault.the-variants.{BadPool, BrokenLinks}
+use Rattle.model.specs.declared.Matched.{Matched}
+use Rattle.model.specs.declared.Outcome.{Outcome}
+use Rattle.model.specs.declared.Outcome.the-variants.{Done, Refused}
+use Rattle.model.specs.Answer.{refusal, outcomeAnswer, matchedAnswer}
+use Rattle.model.specs.Refusal.{Cause, _if_, Step, stepBy, refusing}
+use Rattle.model.proofs.RefusalLaws.{firstFault-append}
+use Rattle.geometry.specs.Region.{Region}
+use Rattle.geometry.specs.SearchRange.{rangeOfDoors}
+use Rattle.pool.specs.Cell.{grantAt}
+use Rattle.pool.specs.Capacity.{poolCapacity}
+use Rattle.adt.specs.Search.{Search}
+use Rattle.grants_file.specs.File.{doorsIn, grantsIn}
+use Rattle.grants_file.specs.Verdict.{fileCauses}
+use Rattle.grants_file.specs.FileSets.{Accepted}
+use Rattle.grants_file.specs.Answers.{fileAnswer}
+use Rattle.grants_file.proofs.GrantSteps.{answer-accepted, answer-refused}
+use Rattle.index.specs.declared.hits.Hits.{Hits}
+use Rattle.index.specs.declared.hits.Hits.the-variants.{Broken, Found}
+use Rattle.index.specs.Walks.{doorSearch, isBroken}
+use Rattle.index.specs.Hits.{HitsFound}
+use Rattle.index.specs.Order.{matchOrder}
+use Rattle.index.specs.FileCalls.{touchingGrants, firstDifference, matchCall}
+use Rattle.index.proofs.HitsLaws.{broken-search, found-hits}
+use Rattle.index.proofs.MatchLaws.{match-refuses}
+use Rattle.index.proofs.RefusalSteps.{first-holds, first-fails, none-left, leaves-as, pool-refused, pool-taken}
+use Rattle.file_calls.specs.WriteKeys.{numberIn}
+use Rattle.file_calls.proofs.SortedCellLaws.{touching-sorted}
+
+pub file-taken : (f : List ℕ) {o : Outcome} → outcomeAnswer o ≡ fileAnswer f → o ≡ Done → Accepted f
+file-taken f v d = answer-accepted f (sym v ∙ ap outcomeAnswer d)
+
+module _ (w f : List ℕ) where
+  -- what match gives where nothing refuses it
+  abbrev compared : Step (List ℕ)
+  compared = record { state = w; answer = matchedAnswer (firstDifference (touchingGrants w (doorsIn f)) (grantsIn f)); lent = [] }
+
+  module _ {c : ℕ} (e : c ≡ poolCapacity w) where
+    pub match-bad : c ≡ 0 → refusal BadPool ≡ matchCall w f .answer
+    unfolding matchCall matchOrder
+    match-bad z = leaves-as (first-holds w [] compared _ _ (pool-refused w e z)) .answered
+
+    module _ (n : ¬ (c ≡ 0)) where
+      pub match-file : {o : Outcome} → outcomeAnswer o ≡ fileAnswer f → {x : Fault} → o ≡ Refused x → outcomeAnswer o ≡ matchCall w f .answer
+      match-file v {x} r =
+          ap outcomeAnswer r ∙ sym (match-refuses w f x (answer-refused f x (sym v ∙ ap outcomeAnswer r)) ∙ rw (pool-taken w e n .right))
+
+      module _ (a : Accepted f) where
+        -- the search alone can refuse yet
+        left : matchCall w f ≡ refusing (BrokenLinks if isBroken (doorSearch w (doorsIn f)) ∷ []) w [] compared
+        unfolding matchCall matchOrder refusing
+        left =
+            first-fails w [] compared _ _ (pool-taken w e n .right)
+            ∙ ap (λ (o : Option Fault). stepBy o w [] compared) (firstFault-append (fileCauses f) (BrokenLinks if isBroken (doorSearch w (doorsIn f)) ∷ []) a)
+
+        module _ {from to : ℕ} (first : from ≡ doorsIn f .from) (last : to ≡ doorsIn f .to) {range : Region}
+            (asked : range ≡ rangeOfDoors (record { from = from; to = to })) where
+          touching : range ≡ rangeOfDoors (doorsIn f)
+          touching = asked ∙ ap₂ (λ (x : ℕ) (y : ℕ). rangeOfDoors (record { from = x; to = y })) first last
+
+          module _ (h : List ℕ) {r : Hits} (hit : HitsFound w range h r) where
+            pub match-broken : r ≡ Broken → refusal BrokenLinks ≡ matchCall w f .answer
+            match-broken b = leaves-as (left ∙ first-holds w [] compared _ _ (ap isBroken (broken-search w touching h hit b))) .answered
+
+            pub match-done : {found : ℕ} → r ≡ Found found → (cells : List ℕ) {m : Matched} → take found cells ≡ sortBy (numberIn w) (take found h)
+                → m ≡ firstDifference (map (grantAt w) (take found cells)) (grantsIn f)
+                → matchedAnswer m ≡ matchCall w f .answer
+            match-done b cells sorted e =
+                let at = found-hits w touching h hit b in
+                ap matchedAnswer (e ∙ ap (λ (gs : List Grant). firstDifference gs (grantsIn f)) (touching-sorted w (doorsIn f) h at cells sorted))
+                ∙ leaves-as (left ∙ first-fails w [] compared _ _ (at .unbroken) ∙ none-left w [] compared) .answered
