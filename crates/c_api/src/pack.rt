@@ -1,7 +1,6 @@
 // The packing of an answer into one word (specs/Pack).
 ghost use mathlib.Core.Path.{_≡_};
 ghost use mathlib.Core.List.{[], _∷_, _++_};
-ghost use Rattle.model.specs.Kind.{kindNumber};
 ghost use Rattle.model.specs.Grant.{grantValues};
 ghost use Rattle.model.specs.Fault.{faultNumber, faultValues};
 ghost use Rattle.model.specs.Answer.{outcomeAnswer, listedAnswer, decisionAnswer, countedAnswer, writtenAnswer, matchedAnswer};
@@ -11,11 +10,11 @@ use model::Counted;
 use model::Decision;
 use model::Fault;
 use model::Grant;
-use model::Kind;
 use model::Listed;
 use model::Matched;
 use model::Outcome;
 use model::Written;
+use model::kinds::kind_number;
 
 // Bits 0 to 7 the number, 8 to 31 `a`, 32 to 63 `b`.
 pub fn word(number: u64, a: u64, b: u64) -> u64
@@ -125,15 +124,6 @@ pub fn pack_matched(matched: Matched) -> u64
     }
 }
 
-fn kind_number(kind: Kind) -> u16
-    ensures { λ r. ⌜ r ≡ kindNumber kind ⌝ }
-{
-    match kind {
-        Kind::Bars => 0,
-        Kind::Opens => 1,
-    }
-}
-
 // The whole grant, and 0 behind it.
 fn words_of(g: Grant) -> [u16; 10]
     ensures { λ r. ⌜ r ≡ grantValues g ++ (0 ∷ []) ⌝ }
@@ -143,7 +133,7 @@ fn words_of(g: Grant) -> [u16; 10]
     [
         g.number,
         g.rank as u16,
-        kind_number(kind),
+        kind_number(kind) as u16,
         b.staff_from,
         b.staff_to,
         b.door_from,

@@ -8,11 +8,11 @@ ghost use Rattle.index.specs.FileCalls.{grantAll, loadCall};
 ghost use Rattle.index.specs.Contract.{Leaves};
 use grants_file::grants::grant_in;
 use grants_file::grants::total_in;
-use grants_file::record::kind_number;
 use grants_file::verdict::judge;
 use index::grant::grant;
 use model::Fault;
 use model::Outcome;
+use model::kinds::kind_number;
 use pool::fresh::make_fresh;
 use pool::layout::length_capacity;
 

@@ -41,7 +41,7 @@ loop-again c =
     let granted = c .before .before in
     let at = granted .before .before .before .before .before in (
       granted .grant .kept .0 ∙ at .loop .inv .0,
-      grants-more _ (at .loop .pool) _ (at .loop .i) (granted .before .before .before .grant-in .ensures) (granted .before .kind-number .ensures) (granted .grant .ensures .left) ∙ at .loop .inv .1,
+      grants-more _ (at .loop .pool) _ (at .loop .i) (granted .before .before .before .grant-in .ensures) (granted .before .kind-number .ensures .0) (granted .grant .ensures .left) ∙ at .loop .inv .1,
     )
 
 same-length : tie.Need-same-length Inv-loop μ-loop
