@@ -1,5 +1,6 @@
 -- The file of the grants in given cells, block by block, as the code writes it.
---   records-more       one record more
+--   record-as          a record stored is that of any grant equal to the one stored
+--   records-none, records-more    no record is stored yet; one more is
 --   chunk-cells        the grants of a block are those in as many cells, from its first on
 --   block-written      a started block, its records, and the seal
 --   blocks-none, blocks-turn, blocks-all    the blocks of records before a place are written
@@ -29,6 +30,10 @@ use Rattle.grants_file.proofs.RecordLaws.{length-encodeRecord}
 use Rattle.grants_file.proofs.WriteBlockSteps.{sets-append, started, record-block}
 use Rattle.index.specs.Hits.{CellsAt}
 use Rattle.file_calls.specs.WriteKeys.{recordsFile}
+
+-- a record stored is that of any grant equal to the one stored
+pub record-as : (b : List ℕ) (at : ℕ) {g h : Grant} {block : List ℕ} → block ≡ sets b at (encodeRecord g) → g ≡ h → block ≡ sets b at (encodeRecord h)
+record-as b at stored same = stored ∙ ap (λ (x : Grant). sets b at (encodeRecord x)) same
 
 module _ (w cells : List ℕ) where
   -- the grants in n cells, from one on

@@ -6,8 +6,9 @@ ghost use lib.ListN.{length, take, drop};
 ghost use lib.Seq.{sets};
 ghost use Rattle.lists.specs.Overwrite.{overwrite};
 ghost use Rattle.model.specs.Limits.{maxGrants};
+ghost use Rattle.pool.specs.Capacity.{poolLength};
 ghost use Rattle.pool.specs.Cell.{grantAt};
-ghost use Rattle.grants_file.specs.Record.{encodeRecord};
+ghost use Rattle.grants_file.specs.Record.{recordBytes, encodeRecord};
 ghost use Rattle.grants_file.specs.Block.{blockBytes, recordsPlace, recordsPerBlock, headerBlock, recordBlock};
 ghost use Rattle.grants_file.specs.File.{blocksFor, chunk, fileOf};
 ghost use Rattle.index.specs.Hits.{CellsAt};
@@ -26,6 +27,15 @@ use grants_file::write_block::write_header;
 use pool::cell::grant_at;
 use pool::layout::wide;
 
+// The record of the grant in a cell, whole, at a place of the block.
+fn write_record(pool: &[u16], cell: usize, block: &mut [u8], at: usize)
+    requires { ⌜ (0 < cell) × (cell ≤ maxGrants) × (poolLength cell ≤ length (now pool)) × (at + recordBytes ≤ length (now block)) ⌝ }
+    ensures { λ r. ⌜ now (block .exit) ≡ sets (now (block .entry)) at (encodeRecord (grantAt (now (pool .entry)) cell)) ⌝ }
+{
+    let g = grant_at(pool, cell);
+    encode_record(block, at, g);
+}
+
 // The records of the grants in so many cells, from the first on.
 fn write_records(pool: &[u16], cells: &HitCells, first: usize, count: usize, block: &mut [u8])
     requires { ⌜ CellsAt (now pool) (now cells) (first + count) × (count ≤ recordsPerBlock) × (length (now block) ≡ blockBytes) ⌝ }
@@ -33,8 +43,8 @@ fn write_records(pool: &[u16], cells: &HitCells, first: usize, count: usize, blo
 {
     let mut i: usize = 0;
     while i < count {
-        let g = grant_at(pool, wide(cells[first + i]));
-        encode_record(block, RECORDS_PLACE + RECORD_BYTES * i, g);
+        let cell = wide(cells[first + i]);
+        write_record(pool, cell, block, RECORDS_PLACE + RECORD_BYTES * i);
         i += 1;
     }
 }

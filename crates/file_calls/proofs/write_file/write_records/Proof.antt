@@ -34,17 +34,18 @@ element-copy-out-wide c = let start = c .before .before .before .before in omega
 wide-requires : tie.Need-wide-requires Inv-loop μ-loop
 wide-requires c κs = search needs
 
-grant-at-requires : tie.Need-grant-at-requires Inv-loop μ-loop
-grant-at-requires c κs = cell-hit (c .before .before .before .before .before .before .pre .0) (omega arith) (c .wide .ensures .0)
+mul-write-record : tie.Need-mul-write-record Inv-loop μ-loop
+mul-write-record c = search needs
 
-mul-encode-record : tie.Need-mul-encode-record Inv-loop μ-loop
-mul-encode-record c = search needs
+add-write-record : tie.Need-add-write-record Inv-loop μ-loop
+add-write-record c = search needs
 
-add-encode-record : tie.Need-add-encode-record Inv-loop μ-loop
-add-encode-record c = search needs
-
-encode-record-requires : tie.Need-encode-record-requires Inv-loop μ-loop
-encode-record-requires c κs = let at = c .before .before .before .before .before in omega (arith, at .loop .inv .2, at .before .before .before .pre .1)
+write-record-requires : tie.Need-write-record-requires Inv-loop μ-loop
+write-record-requires c κs =
+    let at = c .before .before .before .before in
+    let start = at .before .before .before in
+    let cell = cell-hit (start .pre .0) (omega arith) (c .before .wide .ensures .0) in
+    (cell .0, cell .1, cell .2, omega (arith, at .loop .inv .2, start .pre .1))
 
 add-i : tie.Need-add-i Inv-loop μ-loop
 add-i c = search needs
@@ -56,10 +57,10 @@ loop-again : tie.Need-loop-again Inv-loop μ-loop
 loop-again c =
     let wrote = c .before .before in
     let read = wrote .before .before in
-    let at = read .before .before .before .before in
+    let at = read .before .before .before in
     let start = at .before .before .before in
     let l = at .loop in
-    (omega arith, wrote .encode-record .kept .0 ∙ l .inv .1, wrote .encode-record .kept .0 ∙ l .inv .2, records-more (start .args .pool .now) (start .args .cells .now) _ (start .args .first) (l .i) (omega (arith, start .pre .0 .few, start .pre .0 .room)) (read .before .wide .ensures .0) (read .grant-at .ensures) (l .inv .3) (wrote .encode-record .ensures))
+    (omega arith, wrote .write-record .kept .1 .1 .0 ∙ l .inv .1, wrote .write-record .kept .1 .1 .0 ∙ l .inv .2, records-more (start .args .pool .now) (start .args .cells .now) _ (start .args .first) (l .i) (omega (arith, start .pre .0 .few, start .pre .0 .room)) (read .wide .ensures .0) refl (l .inv .3) (wrote .write-record .ensures))
 
 same-length : tie.Need-same-length Inv-loop μ-loop
 same-length c = c .before .loop .inv .1
@@ -81,10 +82,9 @@ write-records-spec =
     mul-wide
     element-copy-out-wide
     wide-requires
-    grant-at-requires
-    mul-encode-record
-    add-encode-record
-    encode-record-requires
+    mul-write-record
+    add-write-record
+    write-record-requires
     add-i
     loop-less
     loop-again
