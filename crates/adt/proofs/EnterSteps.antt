@@ -1,10 +1,11 @@
 -- The search's two steps, case by case: what `enter` gives by its tests, and how a visit is made of three steps.
 --   enter-blank, enter-deep, enter-apart, enter-above, enter-visits    the tests of `enter`, in their order
---   enter-broken, visit-broken, visit-left-broken                      a broken walk goes no further
---   visit-steps                                                        a cell met, its left subtree entered, then its right
---   stands-as                                                          what the memory stands for, once the answer is known
+--   enter-broken                                                       a broken walk goes no further
+--   son-meets                                                          a son's region meets the range if it does on the axis that was halved
+--   son-blank, son-deep, son-before, son-behind, son-past, son-visited what the memory stands for after each test of `enter`
+--   visit-cut, visit-left-cut, visit-whole, visit-in                   and after each step of `visit`
 -- Assumes nothing.
-use Prim.Native.Nat.{ℕ, zero, suc, _-_, _<_, _≤_}
+use Prim.Native.Nat.{ℕ, zero, suc, _+_, _-_, _/_, _<_, _≤_}
 use mathlib.Core.Path.{_≡_, refl, sym, ap, subst, _∙_}
 use mathlib.Core.Bool.{Bool, true, false, cond}
 use mathlib.Core.List.{List}
@@ -12,13 +13,18 @@ use native.Mathlib.Numerals.{sub-one}
 use lib.ListN.{getD}
 use borrow.Author.Tests.{le-leb, lt-leb, eq-eqb, ne-eqb}
 use lib.Dec.{leb}
+use Rattle.lists.proofs.TestLaws.{le-both}
 use Rattle.geometry.specs.declared.Side.the-variants.{Left, Right}
-use Rattle.geometry.specs.Axis.{axisOf}
+use Rattle.geometry.specs.Axis.{axes, axisOf}
 use Rattle.geometry.specs.Levels.{levels}
-use Rattle.geometry.specs.Region.{Region, half, meets}
+use Rattle.geometry.specs.Region.{Region, Shape, low, high, half, narrow, meets}
+use Rattle.geometry.proofs.NarrowLaws.{narrow-half, meets-narrow}
 use Rattle.adt.specs.Node.{linkPlace}
 use Rattle.adt.specs.Search.{Spot, Search, broken, going, meet, visitBy, enter}
 use Rattle.adt.specs.SearchMemory.{searchIn, Counted, Stands}
+
+stands-as : {c : ℕ} {r b : Bool} {h t : List ℕ} {s : Search} → Stands c r h t s → r ≡ b → searchIn b h t ≡ s
+stands-as {h = h} {t = t} d e = ap (λ (x : Bool). searchIn x h t) (sym e) ∙ d .state
 
 module _ (w : List ℕ) (c : ℕ) (q : Region) where
   -- a search that goes on, at the link at the place `link`, whose value is k
@@ -58,24 +64,80 @@ module _ (w : List ℕ) (c : ℕ) (q : Region) where
             → visitBy w c q (enter w c q (n - 1)) (record { level = levels - (n - 1); link = link }) k h now ≡ enter w c q n link g now
         enter-visits i m a = rw i (sym (enter-cases ∙ rw (m, le-leb k c a)))
 
-  pub enter-broken : (n link : ℕ) (g : Region) → enter w c q n link g broken ≡ broken
+  enter-broken : (n link : ℕ) (g : Region) → enter w c q n link g broken ≡ broken
   unfolding enter
   enter-broken zero link g = refl
   enter-broken (suc n) link g = refl
 
+  -- the link at the place `link`, whose value is k; the son's region is the father's with the range l to h on the axis a
+  module _ (n link : ℕ) {k : ℕ} (e : k ≡ getD w link 0) (g : Region) (a l h : ℕ) (shape : Shape g) (lt : a < axes) (m : meets g q ≡ true) where
+    abbrev son : Region
+    son = narrow g a l h
+
+    pub son-meets : low q a ≤ h → l ≤ high q a → meets son q ≡ true
+    son-meets i j = meets-narrow g a l h shape lt q m ∙ le-both (low q a) h l (high q a) i j
+
+    module _ {hits tally : List ℕ} (counted : Counted c hits tally) where
+      abbrev s : Search
+      s = searchIn true hits tally
+
+      pub son-blank : k ≡ 0 → Stands c true hits tally (enter w c q n link son s)
+      son-blank z = record { counted = counted; state = enter-blank n link k son e _ _ _ z }
+
+      module _ (nz : ¬ (k ≡ 0)) where
+        pub son-deep : n ≡ 0 → Stands c false hits tally (enter w c q n link son s)
+        son-deep z = record { counted = counted; state = enter-deep n link k son e _ _ _ nz z }
+
+        module _ (some : ¬ (n ≡ 0)) where
+          apart : meets son q ≡ false → Stands c true hits tally (enter w c q n link son s)
+          apart out = record { counted = counted; state = enter-apart n link k son e _ _ _ nz some out }
+
+          pub son-before : h < low q a → Stands c true hits tally (enter w c q n link son s)
+          son-before out = apart (meets-narrow g a l h shape lt q m ∙ rw (lt-leb (low q a) h out))
+
+          pub son-behind : low q a ≤ h → high q a < l → Stands c true hits tally (enter w c q n link son s)
+          son-behind i out = apart (meets-narrow g a l h shape lt q m ∙ rw (le-leb (low q a) h i, lt-leb l (high q a) out))
+
+          module _ (i : low q a ≤ h) (j : l ≤ high q a) where
+            pub son-past : c < k → Stands c false hits tally (enter w c q n link son s)
+            son-past past = record { counted = counted; state = enter-above n link k son e _ _ _ nz some (son-meets i j) past }
+
+            pub son-visited : k ≤ c → {r : Bool} {hits′ tally′ : List ℕ}
+                → Stands c r hits′ tally′ (visitBy w c q (enter w c q (n - 1)) (record { level = levels - (n - 1); link = link }) k son s)
+                → Stands c r hits′ tally′ (enter w c q n link son s)
+            son-visited few v = record { counted = v .counted; state = v .state ∙ enter-visits n link k son e _ _ _ nz some refl (son-meets i j) few }
+
+  -- the three steps of a visit, from what the memory stands for after each
   module _ (n : ℕ) (here : Spot) (k : ℕ) (g : Region) (s : Search) where
-    pub visit-steps : {a left right : ℕ} {s₁ s₂ s₃ : Search} → a ≡ axisOf (here .level) → left ≡ linkPlace k Left → right ≡ linkPlace k Right
-        → s₁ ≡ meet w c q here k s → s₂ ≡ enter w c q n left (half Left g a) s₁ → s₃ ≡ enter w c q n right (half Right g a) s₂
-        → s₃ ≡ visitBy w c q (enter w c q n) here k g s
+    steps : {s₁ s₂ s₃ : Search} → s₁ ≡ meet w c q here k s → s₂ ≡ enter w c q n (linkPlace k Left) (half Left g (axisOf (here .level))) s₁
+        → s₃ ≡ enter w c q n (linkPlace k Right) (half Right g (axisOf (here .level))) s₂ → s₃ ≡ visitBy w c q (enter w c q n) here k g s
     unfolding visitBy
-    visit-steps ea el er e₁ e₂ e₃ = e₃ ∙ rw (e₂, e₁, ea, el, er)
+    steps e₁ e₂ e₃ = e₃ ∙ rw (e₂, e₁)
 
-    pub visit-broken : broken ≡ meet w c q here k s → broken ≡ visitBy w c q (enter w c q n) here k g s
-    visit-broken e = visit-steps refl refl refl e (sym (enter-broken n _ _)) (sym (enter-broken n _ _))
+    -- a region may be given by an equal one
+    pub visit-in : {g′ : Region} → g′ ≡ g → {r : Bool} {h t : List ℕ} → Stands c r h t (visitBy w c q (enter w c q n) here k g′ s)
+        → Stands c r h t (visitBy w c q (enter w c q n) here k g s)
+    visit-in e {r} {h} {t} d = subst (λ (x : Region). Stands c r h t (visitBy w c q (enter w c q n) here k x s)) e d
 
-    pub visit-left-broken : {a left : ℕ} {s₁ : Search} → a ≡ axisOf (here .level) → left ≡ linkPlace k Left
-        → s₁ ≡ meet w c q here k s → broken ≡ enter w c q n left (half Left g a) s₁ → broken ≡ visitBy w c q (enter w c q n) here k g s
-    visit-left-broken ea el e₁ e₂ = visit-steps ea el refl e₁ e₂ (sym (enter-broken n _ _))
+    pub visit-cut : {r : Bool} {h t : List ℕ} → Stands c r h t (meet w c q here k s) → r ≡ false → Stands c false h t (visitBy w c q (enter w c q n) here k g s)
+    visit-cut d e = record { counted = d .counted; state = steps (stands-as d e) (sym (enter-broken n _ _)) (sym (enter-broken n _ _)) }
 
-pub stands-as : {c : ℕ} {r b : Bool} {h t : List ℕ} {s : Search} → Stands c r h t s → r ≡ b → searchIn b h t ≡ s
-stands-as {h = h} {t = t} d e = ap (λ (x : Bool). searchIn x h t) (sym e) ∙ d .state
+    module _ (shape : Shape g) {a from to : ℕ} (ea : a ≡ axisOf (here .level)) (lt : a < axes) (ef : from ≡ low g a) (et : to ≡ high g a)
+        {h t : List ℕ} {r : Bool} (d : Stands c r h t (meet w c q here k s)) (going : r ≡ true) {left : ℕ} (el : left ≡ linkPlace k Left)
+        {end : ℕ} (ee : end ≡ (from + to) / 2) {r₂ : Bool} {h₂ t₂ : List ℕ}
+        (d₂ : Stands c r₂ h₂ t₂ (enter w c q n left (narrow g a from end) (searchIn true h t))) where
+      lower : narrow g a from end ≡ half Left g a
+      lower = rw (ee, ef, et) (narrow-half Left g a shape lt)
+
+      entered-left : {b : Bool} → r₂ ≡ b → searchIn b h₂ t₂ ≡ enter w c q n (linkPlace k Left) (half Left g (axisOf (here .level))) (searchIn true h t)
+      entered-left e = stands-as d₂ e ∙ rw (lower, el, ea)
+
+      pub visit-left-cut : r₂ ≡ false → Stands c false h₂ t₂ (visitBy w c q (enter w c q n) here k g s)
+      visit-left-cut e = record { counted = d₂ .counted; state = steps (stands-as d going) (entered-left e) (sym (enter-broken n _ _)) }
+
+      pub visit-whole : r₂ ≡ true → {right : ℕ} → right ≡ linkPlace k Right → {start : ℕ} → start ≡ (from + to + 1) / 2
+          → {r₃ : Bool} {h₃ t₃ : List ℕ} → Stands c r₃ h₃ t₃ (enter w c q n right (narrow g a start to) (searchIn true h₂ t₂))
+          → Stands c r₃ h₃ t₃ (visitBy w c q (enter w c q n) here k g s)
+      visit-whole e er {start} es {h₃} {t₃} d₃ =
+          let upper : narrow g a start to ≡ half Right g a = rw (es, ef, et) (narrow-half Right g a shape lt) in
+          record { counted = d₃ .counted; state = steps (stands-as d going) (entered-left e) (d₃ .state ∙ rw (upper, er, ea)) }

@@ -13,6 +13,7 @@ pub mod WayLaws
 pub mod LinkLaws
 pub mod SearchSpots
 pub mod SearchLinks
+pub mod HitTest
 pub mod HitLaws
 pub mod WayLinks
 pub mod RemovalLinks

@@ -3,15 +3,25 @@ ghost use mathlib.Core.Path.{_≡_};
 ghost use Prim.Native.Nat.{_<_, _≤_};
 ghost use lib.ListN.{length};
 ghost use Rattle.model.specs.Limits.{maxGrants};
-ghost use Rattle.geometry.specs.Point.{pointOf};
+ghost use Rattle.geometry.specs.Point.{pointOf, inside};
+ghost use Rattle.geometry.specs.SearchRange.{OneSided};
 ghost use Rattle.pool.specs.Capacity.{poolLength};
 ghost use Rattle.adt.specs.Node.{linkPlace, pointAt};
 use geometry::Side;
+use geometry::axis::DOOR_FROM;
+use geometry::axis::DOOR_TO;
+use geometry::axis::NUMBER;
+use geometry::axis::QUARTER_FROM;
+use geometry::axis::QUARTER_TO;
+use geometry::axis::STAFF_FROM;
+use geometry::axis::STAFF_TO;
 use geometry::region::Point;
+use geometry::region::Region;
 use model::Grant;
 use pool::Field;
 use pool::layout::field;
 use pool::layout::place_of;
+use pool::layout::wide;
 
 // A grant as a point on seven axes.
 pub fn point_of(g: Grant) -> Point
@@ -29,20 +39,37 @@ pub fn point_of(g: Grant) -> Point
     ]
 }
 
-// The point of the grant in a cell.
-pub fn point_at(pool: &[u16], cell: usize) -> Point
-    requires { ⌜ (0 < cell) × (cell ≤ maxGrants) × (poolLength cell ≤ length (now pool)) ⌝ }
-    ensures { λ r. ⌜ r ≡ pointAt (now (pool .entry)) cell ⌝ }
+// Whether the point of the grant in a cell lies in a search range. Only the comparisons that can fail are made.
+pub fn is_hit(pool: &[u16], cell: usize, range: &Region) -> bool
+    requires { ⌜ (0 < cell) × (cell ≤ maxGrants) × (poolLength cell ≤ length (now pool)) × OneSided (now range) ⌝ }
+    ensures { λ r. ⌜ r ≡ inside (now (range .entry)) (pointAt (now (pool .entry)) cell) ⌝ }
 {
-    [
-        field(pool, cell, Field::StaffFrom),
-        field(pool, cell, Field::DoorFrom),
-        field(pool, cell, Field::QuarterFrom),
-        field(pool, cell, Field::StaffTo),
-        field(pool, cell, Field::DoorTo),
-        field(pool, cell, Field::QuarterTo),
-        field(pool, cell, Field::Number),
-    ]
+    let number = field(pool, cell, Field::Number);
+    if number < range[NUMBER][0] {
+        return false;
+    }
+    if range[NUMBER][1] < number {
+        return false;
+    }
+    if range[STAFF_FROM][1] < field(pool, cell, Field::StaffFrom) {
+        return false;
+    }
+    if wide(field(pool, cell, Field::StaffTo)) < wide(range[STAFF_TO][0]) {
+        return false;
+    }
+    if range[DOOR_FROM][1] < field(pool, cell, Field::DoorFrom) {
+        return false;
+    }
+    if wide(field(pool, cell, Field::DoorTo)) < wide(range[DOOR_TO][0]) {
+        return false;
+    }
+    if range[QUARTER_FROM][1] < field(pool, cell, Field::QuarterFrom) {
+        return false;
+    }
+    if wide(field(pool, cell, Field::QuarterTo)) < wide(range[QUARTER_TO][0]) {
+        return false;
+    }
+    true
 }
 
 // The place of a cell's link to its son on a side.

@@ -4,21 +4,23 @@ ghost use mathlib.Core.Path.{_≡_};
 ghost use mathlib.Core.Bool.{true};
 ghost use Prim.Native.Nat.{_-_, _<_, _≤_};
 ghost use lib.ListN.{length};
-ghost use Rattle.geometry.specs.Axis.{axes, axisOf};
+ghost use Rattle.geometry.specs.Axis.{axes};
 ghost use Rattle.geometry.specs.Levels.{levels};
-ghost use Rattle.geometry.specs.Region.{Shape, half, meets};
+ghost use Rattle.geometry.specs.Region.{Shape, narrow, meets};
+ghost use Rattle.geometry.specs.SearchRange.{OneSided};
 ghost use Rattle.adt.specs.Search.{meet, visitBy, enter, search};
 ghost use Rattle.adt.specs.SearchMemory.{searchIn, Fresh, Ready, Stands};
-use crate::node::point_at;
-use geometry::Side;
+use crate::node::is_hit;
 use geometry::axis::LEVELS;
+use geometry::axis::STAFF_FROM;
+use geometry::axis::TOP;
 use geometry::axis::axis_of;
 use geometry::region::Region;
-use geometry::region::half_meets;
-use geometry::region::halve;
-use geometry::region::is_inside;
+use geometry::region::lower_end;
 use geometry::region::meets_range;
+use geometry::region::narrow;
 use geometry::region::root_region;
+use geometry::region::upper_start;
 use pool::Field;
 use pool::layout::MAX_CAPACITY;
 use pool::layout::ROOT;
@@ -51,7 +53,7 @@ fn test(
     hits: &mut HitCells,
     tally: &mut Tally,
 ) -> bool
-    requires { ⌜ Ready (now pool) cells (now hits) (now tally) × (0 < k) × (k ≤ cells) ⌝ }
+    requires { ⌜ Ready (now pool) cells (now hits) (now tally) × (0 < k) × (k ≤ cells) × OneSided (now range) ⌝ }
     ensures { λ r. ⌜ Stands cells r (now (hits .exit)) (now (tally .exit)) (meet (now (pool .entry)) cells (now (range .entry)) (record { level = level; link = link }) k (searchIn true (now (hits .entry)) (now (tally .entry)))) ⌝ }
 {
     let met = tally[MET];
@@ -60,7 +62,7 @@ fn test(
         return false;
     }
     tally[MET] = met + 1;
-    if !is_inside(range, point_at(pool, k)) {
+    if !is_hit(pool, k, range) {
         return true;
     }
     tally[FOUND] = found + 1;
@@ -74,33 +76,41 @@ fn test(
 }
 
 // Tests the cell k, which hangs at the link's place with a number of levels below it, then enters its left and its right subtree.
+// Its region is its father's with the range low to high on the axis that the father halves.
 fn visit(
     pool: &[u16],
     cells: usize,
     below: usize,
     k: usize,
     link: usize,
-    region: Region,
+    halved: usize,
+    low: u16,
+    high: u16,
+    father: Region,
     range: &Region,
     hits: &mut HitCells,
     tally: &mut Tally,
 ) -> bool
-    requires { ⌜ Ready (now pool) cells (now hits) (now tally) × (below ≤ levels) × (0 < k) × (k ≤ cells) × Shape region × (meets region (now range) ≡ true) ⌝ }
-    ensures { λ r. ⌜ Stands cells r (now (hits .exit)) (now (tally .exit)) (visitBy (now (pool .entry)) cells (now (range .entry)) (enter (now (pool .entry)) cells (now (range .entry)) below) (record { level = levels - below; link = link }) k region (searchIn true (now (hits .entry)) (now (tally .entry)))) ⌝ }
+    requires { ⌜ Ready (now pool) cells (now hits) (now tally) × (below ≤ levels) × (0 < k) × (k ≤ cells) × OneSided (now range) × Shape father × (halved < axes) × (meets (narrow father halved low high) (now range) ≡ true) ⌝ }
+    ensures { λ r. ⌜ Stands cells r (now (hits .exit)) (now (tally .exit)) (visitBy (now (pool .entry)) cells (now (range .entry)) (enter (now (pool .entry)) cells (now (range .entry)) below) (record { level = levels - below; link = link }) k (narrow father halved low high) (searchIn true (now (hits .entry)) (now (tally .entry)))) ⌝ }
 {
+    let region = narrow(father, halved, low, high);
     let level = LEVELS - below;
     let axis = axis_of(level);
     if !test(pool, cells, k, level, link, range, hits, tally) {
         return false;
     }
+    let from = region[axis][0];
+    let to = region[axis][1];
     let left = place_of(k, Field::Left);
     if !enter(
         pool,
         cells,
         below,
         left,
-        Side::Left,
         axis,
+        from,
+        lower_end(from, to),
         region,
         range,
         hits,
@@ -114,8 +124,9 @@ fn visit(
         cells,
         below,
         right,
-        Side::Right,
         axis,
+        upper_start(from, to),
+        to,
         region,
         range,
         hits,
@@ -123,22 +134,23 @@ fn visit(
     )
 }
 
-// Goes through the link at a place to the son on a side, if it leads to a cell and the half of the father's region there meets the
-// range. Only the axis that is halved is tested: the father's region met the range.
+// Goes through the link at a place to a son, if it leads to a cell and the son's region meets the range. That region is the father's with
+// the range low to high on one axis, and only this axis is tested: the father's region met the range.
 fn enter(
     pool: &[u16],
     cells: usize,
     below: usize,
     link: usize,
-    side: Side,
     axis: usize,
+    low: u16,
+    high: u16,
     region: Region,
     range: &Region,
     hits: &mut HitCells,
     tally: &mut Tally,
 ) -> bool
-    requires { ⌜ Ready (now pool) cells (now hits) (now tally) × (below ≤ levels) × (link < length (now pool)) × (axis < axes) × Shape region × (meets region (now range) ≡ true) ⌝ }
-    ensures { λ r. ⌜ Stands cells r (now (hits .exit)) (now (tally .exit)) (enter (now (pool .entry)) cells (now (range .entry)) below link (half side region axis) (searchIn true (now (hits .entry)) (now (tally .entry)))) ⌝ }
+    requires { ⌜ Ready (now pool) cells (now hits) (now tally) × (below ≤ levels) × (link < length (now pool)) × OneSided (now range) × Shape region × (axis < axes) × (meets region (now range) ≡ true) ⌝ }
+    ensures { λ r. ⌜ Stands cells r (now (hits .exit)) (now (tally .exit)) (enter (now (pool .entry)) cells (now (range .entry)) below link (narrow region axis low high) (searchIn true (now (hits .entry)) (now (tally .entry)))) ⌝ }
 {
     let k = wide(pool[link]);
     if k == 0 {
@@ -147,7 +159,10 @@ fn enter(
     if below == 0 {
         return false;
     }
-    if !half_meets(side, &region, axis, range) {
+    if high < range[axis][0] {
+        return true;
+    }
+    if range[axis][1] < low {
         return true;
     }
     if cells < k {
@@ -159,7 +174,10 @@ fn enter(
         below - 1,
         k,
         link,
-        halve(side, region, axis),
+        axis,
+        low,
+        high,
+        region,
         range,
         hits,
         tally,
@@ -175,7 +193,7 @@ pub fn search(
     hits: &mut HitCells,
     tally: &mut Tally,
 ) -> bool
-    requires { ⌜ Fresh (now pool) cells (now hits) (now tally) ⌝ }
+    requires { ⌜ Fresh (now pool) cells (now hits) (now tally) × OneSided (now range) ⌝ }
     ensures { λ r. ⌜ Stands cells r (now (hits .exit)) (now (tally .exit)) (search (now (pool .entry)) (now (range .entry))) ⌝ }
 {
     let k = wide(pool[ROOT]);
@@ -189,5 +207,18 @@ pub fn search(
     if cells < k {
         return false;
     }
-    visit(pool, cells, LEVELS, k, ROOT, region, range, hits, tally)
+    visit(
+        pool,
+        cells,
+        LEVELS,
+        k,
+        ROOT,
+        STAFF_FROM,
+        0,
+        TOP,
+        region,
+        range,
+        hits,
+        tally,
+    )
 }

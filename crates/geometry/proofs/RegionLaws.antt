@@ -1,6 +1,7 @@
 -- Laws of regions, over any axis and either side. Nothing here names an axis or a width.
 --   Spans g a x, Shares r q a    a coordinate between the ends; two regions with a coordinate in common on the axis
 --   inside-ends, ends-inside     the test of a point as orders of its coordinates
+--   outside-on                   a point that is outside on one axis is outside
 --   meets-ends, ends-meets       the test of two regions as orders of their ends
 --   lowOf s g a, highOf s g a    the ends of a half on the axis that was halved: half-low, half-high
 --   half-other                   the other axes stay
@@ -8,7 +9,6 @@
 --   half-inside                  a point of a half is one of the whole
 --   inside-half                  a point of the whole is one of the half on its side
 --   common-meets                 regions with a common point meet
---   meets-half                   of a region that meets a range, a half meets it exactly if it does on the axis that was halved
 -- Assumes nothing.
 use Prim.Native.Nat.{ℕ, _+_, _/_, _<_, _≤_}
 use mathlib.Core.Logic.{_≢_}
@@ -53,6 +53,13 @@ inside-ends q p e a h =
 pub ends-inside : (q : Region) (p : List ℕ) → ((a : ℕ) → a < axes → Spans q a (getD p a 0)) → inside q p ≡ true
 unfolding inside
 ends-inside q p f = all-each axes (insideOn q p) (λ a h. let x = getD p a 0 in le-both (low q a) x x (high q a) (f a h .above) (f a h .below))
+
+pub outside-on : (q : Region) (p : List ℕ) (a : ℕ) → a < axes → (Spans q a (getD p a 0) → ⊥) → inside q p ≡ false
+outside-on q p a h out = go (inside q p) refl
+  where
+    go : (b : Bool) → inside q p ≡ b → b ≡ false
+    go true e = absurd (out (inside-ends q p e a h))
+    go false e = refl
 
 pub meetsOn-ends : (r q : Region) (a : ℕ) → meetsOn r q a ≡ true → Shares r q a
 meetsOn-ends r q a e = let both = both-le (low q a) (high r a) (low r a) (high q a) e in record { starts = both .0; ends = both .1 }
@@ -152,18 +159,6 @@ module _ (s : Side) (g : Region) (a : ℕ) (w : Shape g) (lt : a < axes) where
 
   pub half-inside : (p : List ℕ) → inside (half s g a) p ≡ true → inside g p ≡ true
   half-inside p e = ends-inside g p (λ b h. half-spans b (getD p b 0) (inside-ends (half s g a) p e b h))
-
-  pub meets-half : (q : Region) → meets g q ≡ true → meets (half s g a) q ≡ meetsOn (half s g a) q a
-  meets-half q e =
-      tests-agree (meets (half s g a) q) (meetsOn (half s g a) q a)
-      (λ i. ends-meetsOn (half s g a) q a (meets-ends (half s g a) q i a lt))
-      (λ i. ends-meets (half s g a) q (λ b h. go (meetsOn-ends (half s g a) q a i) b h (ℕ-discrete b a)))
-    where
-      go : Shares (half s g a) q a → (b : ℕ) → b < axes → Dec (b ≡ a) → Shares (half s g a) q b
-      go on b h (yes i) = rw i on
-      go on b h (no n) =
-          let whole = meets-ends g q e b h in
-          record { starts = rw (half-other s g a b n) (whole .starts); ends = rw (half-other s g a b n) (whole .ends) }
 
 -- the side of a coordinate has it
 side-spans : (g : Region) (a x : ℕ) → Spans g a x → (lowOf (sideOf g a x) g a ≤ x) × (x ≤ highOf (sideOf g a x) g a)

@@ -5,12 +5,14 @@
 --   doors-hits             write and match: the grants that touch the doors
 --   number-hits            grant and revoke: the grant of that number
 --   all-hits               count: every grant
+--   box-, doors-, number-, all-one-sided    the search ranges are one-sided
+--   hit-axes               a point in a one-sided range, from the comparisons that can fail
 -- Assumes nothing.
 use Prim.Native.Nat.{ℕ, zero, suc, _<_, _≤_, zero-le}
 use mathlib.Core.Logic.{_↔_}
 use mathlib.Core.Path.{_≡_, refl, _∙_}
 use mathlib.Core.Bool.{true, _&&_, and-eq-true-iff, and-true}
-use mathlib.Core.List.{[], _∷_}
+use mathlib.Core.List.{List, [], _∷_}
 use native.Mathlib.Omega.{arith}
 use lib.Dec.{T, eqb, lit<}
 use lib.ListN.{length, getD}
@@ -28,9 +30,9 @@ use Rattle.model.specs.Values.{GrantFits}
 use Rattle.model.proofs.OverlapLaws.{overlaps-iff}
 use Rattle.geometry.specs.Axis.{axes}
 use Rattle.geometry.specs.Width.{topOf}
-use Rattle.geometry.specs.Region.{Region, range, rootRegion}
+use Rattle.geometry.specs.Region.{Region, range, rootRegion, low, high}
 use Rattle.geometry.specs.Point.{pointOf, inside}
-use Rattle.geometry.specs.SearchRange.{rangeOfBox, rangeOfDoors, rangeOfNumber, rangeOfAll}
+use Rattle.geometry.specs.SearchRange.{rangeOfBox, rangeOfDoors, rangeOfNumber, rangeOfAll, OneSided}
 use Rattle.geometry.proofs.RegionLaws.{Spans, inside-ends, ends-inside}
 
 -- all of an axis, as a range
@@ -165,3 +167,35 @@ module _ (g : Grant) (fits : GrantFits g) where
   pub all-hits : inside rangeOfAll (pointOf g) ≡ true
   unfolding rootRegion countFrom
   all-hits = hits-overlap (boxOf (whole 0) (whole 1) (whole 2)) (whole 6) ∙ rw (all-overlap, whole-holds)
+
+pub box-one-sided : (b : Box) → OneSided (rangeOfBox b)
+unfolding rangeOfBox
+box-one-sided b = record { staff-from = refl; door-from = refl; quarter-from = refl; staff-to = refl; door-to = refl; quarter-to = refl }
+
+pub doors-one-sided : (d : Interval) → OneSided (rangeOfDoors d)
+unfolding rangeOfDoors
+doors-one-sided d = record { staff-from = refl; door-from = refl; quarter-from = refl; staff-to = refl; door-to = refl; quarter-to = refl }
+
+pub number-one-sided : (n : ℕ) → OneSided (rangeOfNumber n)
+unfolding rangeOfNumber
+number-one-sided n = record { staff-from = refl; door-from = refl; quarter-from = refl; staff-to = refl; door-to = refl; quarter-to = refl }
+
+pub all-one-sided : OneSided rangeOfAll
+unfolding rootRegion countFrom
+all-one-sided = record { staff-from = refl; door-from = refl; quarter-from = refl; staff-to = refl; door-to = refl; quarter-to = refl }
+
+-- the comparisons that can fail, all made
+module _ {q : Region} (p : List ℕ) (o : OneSided q) where
+  pub hit-axes : low q 6 ≤ getD p 6 0 → getD p 6 0 ≤ high q 6 → getD p 0 0 ≤ high q 0 → getD p 1 0 ≤ high q 1 → getD p 2 0 ≤ high q 2
+      → low q 3 ≤ getD p 3 0 → getD p 3 0 ≤ topOf 3 → low q 4 ≤ getD p 4 0 → getD p 4 0 ≤ topOf 4 → low q 5 ≤ getD p 5 0 → getD p 5 0 ≤ topOf 5
+      → inside q p ≡ true
+  hit-axes n₀ n₁ s d t s₀ s₁ d₀ d₁ t₀ t₁ =
+      ends-inside q p
+      (every-axis (λ a. Spans q a (getD p a 0))
+      (record { above = omega (arith, o .staff-from); below = s })
+      (record { above = omega (arith, o .door-from); below = d })
+      (record { above = omega (arith, o .quarter-from); below = t })
+      (record { above = s₀; below = omega (arith, o .staff-to, s₁) })
+      (record { above = d₀; below = omega (arith, o .door-to, d₁) })
+      (record { above = t₀; below = omega (arith, o .quarter-to, t₁) })
+      (record { above = n₀; below = n₁ }))

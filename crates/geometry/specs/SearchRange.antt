@@ -3,14 +3,16 @@
 --   rangeOfDoors d     write and match: the doors, with the staff and quarter axes free
 --   rangeOfNumber n    grant and revoke: the number, with all other axes free
 --   rangeOfAll         count: everything
+--   OneSided q         what they have in common: nothing is asked of the low end of a from, nor of the high end of a to
 -- Source 001's (8a) and (8b) have min and max exchanged; condition (5) decides. Changed by card 2.
 -- Assumes nothing: these are definitions.
 use Prim.Native.Nat.{ℕ}
+use mathlib.Core.Path.{_≡_}
 use mathlib.Core.List.{[], _∷_}
 use Rattle.model.specs.declared.Box.{Box}
 use Rattle.model.specs.Interval.{Interval}
 use Rattle.geometry.specs.Width.{topOf}
-use Rattle.geometry.specs.Region.{Region, range, free, rootRegion}
+use Rattle.geometry.specs.Region.{Region, range, free, rootRegion, low, high}
 
 unfoldable pub rangeOfBox : Box → Region
 rangeOfBox b =
@@ -32,3 +34,11 @@ rangeOfNumber n = free 0 ∷ free 1 ∷ free 2 ∷ free 3 ∷ free 4 ∷ free 5 
 
 abbrev pub rangeOfAll : Region
 rangeOfAll = rootRegion
+
+pub record OneSided (q : Region) : Type 0 where
+  pub staff-from : low q 0 ≡ 0
+  pub door-from : low q 1 ≡ 0
+  pub quarter-from : low q 2 ≡ 0
+  pub staff-to : high q 3 ≡ topOf 3
+  pub door-to : high q 4 ≡ topOf 4
+  pub quarter-to : high q 5 ≡ topOf 5

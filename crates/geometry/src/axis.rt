@@ -5,6 +5,21 @@ ghost use Prim.Native.Nat.{_<_};
 
 pub const AXES: usize = 7;
 
+// Document 01's axes, in their order.
+pub const STAFF_FROM: usize = 0;
+
+pub const DOOR_FROM: usize = 1;
+
+pub const QUARTER_FROM: usize = 2;
+
+pub const STAFF_TO: usize = 3;
+
+pub const DOOR_TO: usize = 4;
+
+pub const QUARTER_TO: usize = 5;
+
+pub const NUMBER: usize = 6;
+
 pub const LEVELS: usize = 112;
 
 pub const TOP: u16 = 65535;

@@ -1,11 +1,8 @@
 // Regions and search ranges: seven ranges, each a low and a high, both of it (document 01, "The tree").
 ghost use mathlib.Core.Path.{_≡_};
-ghost use mathlib.Core.Bool.{_&&_};
-ghost use lib.Dec.{leb};
-ghost use Prim.Native.Nat.{_<_};
+ghost use Prim.Native.Nat.{_+_, _/_, _<_};
 ghost use Rattle.geometry.specs.Axis.{axes};
-ghost use Rattle.geometry.specs.Region.{Shape, rootRegion, half, meets, meetsOn, sideOf};
-ghost use Rattle.geometry.specs.Point.{inside};
+ghost use Rattle.geometry.specs.Region.{rootRegion, half, narrow, meets, sideOf};
 use crate::Side;
 use crate::axis::AXES;
 use crate::axis::TOP;
@@ -49,6 +46,29 @@ pub fn halve(side: Side, mut region: Region, axis: usize) -> Region
     }
 }
 
+// The region with another range on an axis, such as a half of its own.
+pub fn narrow(mut region: Region, axis: usize, low: u16, high: u16) -> Region
+    requires { ⌜ axis < axes ⌝ }
+    ensures { λ r. ⌜ r ≡ narrow region axis low high ⌝ }
+{
+    region[axis] = [low, high];
+    region
+}
+
+// Where the lower half of a range ends.
+pub fn lower_end(low: u16, high: u16) -> u16
+    ensures { λ r. ⌜ r ≡ (low + high) / 2 ⌝ }
+{
+    ((wide(low) + wide(high)) / 2) as u16
+}
+
+// Where the upper half begins.
+pub fn upper_start(low: u16, high: u16) -> u16
+    ensures { λ r. ⌜ r ≡ (low + high + 1) / 2 ⌝ }
+{
+    ((wide(low) + wide(high) + 1) / 2) as u16
+}
+
 // The side whose half holds a coordinate.
 pub fn side_of(region: &Region, axis: usize, x: u16) -> Side
     requires { ⌜ axis < axes ⌝ }
@@ -59,28 +79,6 @@ pub fn side_of(region: &Region, axis: usize, x: u16) -> Side
         Side::Left
     } else {
         Side::Right
-    }
-}
-
-// Whether two ranges share a coordinate.
-fn share(low: usize, high: usize, from: usize, to: usize) -> bool
-    ensures { λ r. ⌜ r ≡ (leb from high && leb low to) ⌝ }
-{
-    if from <= high { low <= to } else { false }
-}
-
-// Whether the half of the region on a side meets the range on the axis that is halved.
-pub fn half_meets(side: Side, region: &Region, axis: usize, range: &Region) -> bool
-    requires { ⌜ (axis < axes) × Shape (now region) ⌝ }
-    ensures { λ r. ⌜ r ≡ meetsOn (half side (now (region .entry)) axis) (now (range .entry)) axis ⌝ }
-{
-    let low = wide(region[axis][0]);
-    let high = wide(region[axis][1]);
-    let from = wide(range[axis][0]);
-    let to = wide(range[axis][1]);
-    match side {
-        Side::Left => share(low, (low + high) / 2, from, to),
-        Side::Right => share((low + high + 1) / 2, high, from, to),
     }
 }
 
@@ -95,23 +93,6 @@ pub fn meets_range(region: &Region, range: &Region) -> bool
             return false;
         }
         if range[n][1] < region[n][0] {
-            return false;
-        }
-    }
-    true
-}
-
-// Whether the point lies in the range.
-pub fn is_inside(range: &Region, point: Point) -> bool
-    ensures { λ r. ⌜ r ≡ inside (now (range .entry)) point ⌝ }
-{
-    let mut n: usize = AXES;
-    while 0 < n {
-        n -= 1;
-        if point[n] < range[n][0] {
-            return false;
-        }
-        if range[n][1] < point[n] {
             return false;
         }
     }

@@ -2,7 +2,6 @@
 use mathlib.Core.Path.{refl, sym, ap, _∙_}
 use Rattle.adt.proofs.SearchSteps.{test-full, test-outside, test-later, test-first}
 use mathlib.Core.Bool.{not, Bool·not-not}
-use Rattle.geometry.specs.Point.{inside}
 use borrow.Author.Needs.{needs}
 use Rattle.adt.proofs.search.test.Statement.{statement}
 use Rattle.adt.proofs.search.test.Tie as tie
@@ -24,17 +23,14 @@ add-tally c = search needs
 element-write-tally : tie.Need-element-write-tally
 element-write-tally c = search needs
 
-point-at-requires : tie.Need-point-at-requires
-point-at-requires c κs = search needs
-
-is-inside-requires : tie.Need-is-inside-requires
-is-inside-requires c κs = search needs
+is-hit-requires : tie.Need-is-hit-requires
+is-hit-requires c κs = search needs
 
 returns-2 : tie.Need-returns-2
 returns-2 c =
-    test-outside (c .before .before .before .before .before .before .before .args .pool .now) (c .before .before .before .before .before .before .before .args .cells) (c .before .before .before .before .before .before .before .args .range .now) (record { level = c .before .before .before .before .before .before .before .args .level; link = c .before .before .before .before .before .before .before .args .link }) (c .before .before .before .before .before .before .before .args .k) (c .before .before .before .before .before .before .before .args .hits .now) (c .before .before .before .before .before .before .before .pre .0 .few)
-    _ (c .before .before .before .if1 .left) (c .before .before .before .before .before .before .before .args .tally .now) (c .before .before .before .before .before .before .before .pre .0 .counted) refl
-    (ap (inside _) (sym (c .before .before .point-at .ensures)) ∙ sym (c .before .is-inside .ensures) ∙ sym (Bool·not-not _) ∙ ap not (c .if2 .taken))
+    test-outside (c .before .before .before .before .before .before .args .pool .now) (c .before .before .before .before .before .before .args .cells) (c .before .before .before .before .before .before .args .range .now) (record { level = c .before .before .before .before .before .before .args .level; link = c .before .before .before .before .before .before .args .link }) (c .before .before .before .before .before .before .args .k) (c .before .before .before .before .before .before .args .hits .now) (c .before .before .before .before .before .before .pre .0 .few)
+    _ (c .before .before .if1 .left) (c .before .before .before .before .before .before .args .tally .now) (c .before .before .before .before .before .before .pre .0 .counted) refl
+    (sym (c .before .is-hit .ensures) ∙ sym (Bool·not-not _) ∙ ap not (c .if2 .taken))
 
 add-tally-2 : tie.Need-add-tally-2
 add-tally-2 c = search needs
@@ -53,9 +49,9 @@ element-write-hits c = search needs
 
 returns-3 : tie.Need-returns-3
 returns-3 c =
-    test-later (c .before .before .before .before .before .before .before .before .args .pool .now) (c .before .before .before .before .before .before .before .before .args .cells) (c .before .before .before .before .before .before .before .before .args .range .now) (record { level = c .before .before .before .before .before .before .before .before .args .level; link = c .before .before .before .before .before .before .before .before .args .link }) (c .before .before .before .before .before .before .before .before .args .k) (c .before .before .before .before .before .before .before .before .args .hits .now) (c .before .before .before .before .before .before .before .before .pre .0 .few)
-    _ (c .before .before .before .before .if1 .left) _ (ap (inside _) (sym (c .before .before .before .point-at .ensures)) ∙ sym (c .before .before .is-inside .ensures) ∙ sym (Bool·not-not _) ∙ ap not (c .before .if2 .left))
-    (c .before .before .before .before .before .before .before .before .args .tally .now) (c .before .before .before .before .before .before .before .before .pre .0 .counted) refl refl (c .if3 .taken)
+    test-later (c .before .before .before .before .before .before .before .args .pool .now) (c .before .before .before .before .before .before .before .args .cells) (c .before .before .before .before .before .before .before .args .range .now) (record { level = c .before .before .before .before .before .before .before .args .level; link = c .before .before .before .before .before .before .before .args .link }) (c .before .before .before .before .before .before .before .args .k) (c .before .before .before .before .before .before .before .args .hits .now) (c .before .before .before .before .before .before .before .pre .0 .few)
+    _ (c .before .before .before .if1 .left) _ (sym (c .before .before .is-hit .ensures) ∙ sym (Bool·not-not _) ∙ ap not (c .before .if2 .left))
+    (c .before .before .before .before .before .before .before .args .tally .now) (c .before .before .before .before .before .before .before .pre .0 .counted) refl refl (c .if3 .taken)
 
 element-write-tally-3 : tie.Need-element-write-tally-3
 element-write-tally-3 c = search needs
@@ -65,9 +61,9 @@ element-write-tally-4 c = search needs
 
 returns-4 : tie.Need-returns-4
 returns-4 c =
-    test-first (c .before .before .before .before .before .before .before .before .args .pool .now) (c .before .before .before .before .before .before .before .before .args .cells) (c .before .before .before .before .before .before .before .before .args .range .now) (record { level = c .before .before .before .before .before .before .before .before .args .level; link = c .before .before .before .before .before .before .before .before .args .link }) (c .before .before .before .before .before .before .before .before .args .k) (c .before .before .before .before .before .before .before .before .args .hits .now) (c .before .before .before .before .before .before .before .before .pre .0 .few)
-    _ (c .before .before .before .before .if1 .left) _ (ap (inside _) (sym (c .before .before .before .point-at .ensures)) ∙ sym (c .before .before .is-inside .ensures) ∙ sym (Bool·not-not _) ∙ ap not (c .before .if2 .left))
-    (c .before .before .before .before .before .before .before .before .args .tally .now) (c .before .before .before .before .before .before .before .before .pre .0 .counted) refl refl (c .if3 .left)
+    test-first (c .before .before .before .before .before .before .before .args .pool .now) (c .before .before .before .before .before .before .before .args .cells) (c .before .before .before .before .before .before .before .args .range .now) (record { level = c .before .before .before .before .before .before .before .args .level; link = c .before .before .before .before .before .before .before .args .link }) (c .before .before .before .before .before .before .before .args .k) (c .before .before .before .before .before .before .before .args .hits .now) (c .before .before .before .before .before .before .before .pre .0 .few)
+    _ (c .before .before .before .if1 .left) _ (sym (c .before .before .is-hit .ensures) ∙ sym (Bool·not-not _) ∙ ap not (c .before .if2 .left))
+    (c .before .before .before .before .before .before .before .args .tally .now) (c .before .before .before .before .before .before .before .pre .0 .counted) refl refl (c .if3 .left)
 
 pub test-spec : {M : Type 1} → statement M
 test-spec =
@@ -78,8 +74,7 @@ test-spec =
     returns
     add-tally
     element-write-tally
-    point-at-requires
-    is-inside-requires
+    is-hit-requires
     returns-2
     add-tally-2
     element-write-tally-2
