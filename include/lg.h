@@ -15,17 +15,20 @@
  * a and b are 0 where a call below does not name them. A refused call leaves all memory as it was.
  *
  *      1  not a pool: its length is no pool's, or its first word is not its capacity (lg_start asks only for the length)
- *      2  a range of the box ends before it starts
+ *      2  a range of the box, or the doors, end before they start
  *      3  the number is 0
  *      4  the kind is above 1
  *      5  the number is already live
- *      6  no cell is free
+ *      6  no cell is free; in lg_load, the file has more grants than the pool has cells
  *      7  the number is not live
  *      8  the list is too short; a = count needed
  *      9  the pool's links are broken: one leads outside the cells, too deep, or to more cells than there are
  *     10  the file is not 1 to 68 whole blocks, or the block is not in it
- *     11  a block's mark, number, record count or fill is wrong; b = the block
+ *     11  a block's mark, number, record count or fill is wrong, or in block 0 its n, the block count or the door order; b = the block
  *     12  a block's check is wrong; b = the block
+ *     13  a record is wrong: number 0 or not above the last, kind above 1, a range that ends before it starts, doors that it does not
+ *         touch; b = the block
+ *     14  the lent bytes are too few; b = length needed
  */
 #ifndef LG_H
 #define LG_H
@@ -69,6 +72,20 @@ uint64_t lg_decide(const uint16_t *pool, size_t pool_words, uint16_t staff, uint
 
 /* Accepted: a = live grants, b = the capacity less a. Refuses 1 and 9, in this order. Leaves: everything as it was. */
 uint64_t lg_count(const uint16_t *pool, size_t pool_words);
+
+/* Writes the grants file of the doors: all live grants that touch them, whole, ascending by number. 34,816 bytes are always enough.
+ * Accepted: b = the file's length in bytes. Refuses 1, 2, 9 and 14 (b = length needed), in this order.
+ * Leaves: the file in the bytes; bytes past it, and the pool, stay. */
+uint64_t lg_write(const uint16_t *pool, size_t pool_words, uint16_t door_from, uint16_t door_to, uint8_t *bytes, size_t byte_count);
+
+/* Makes the pool what lg_start and then the file's grants, in their order, make it. The words that it held do not matter.
+ * Refuses 1, then 10, then for each block rising 12, 11 and 13 (b = block), then 6. Leaves: a pool with the file's grants live. */
+uint64_t lg_load(uint16_t *pool, size_t pool_words, const uint8_t *file, size_t file_bytes);
+
+/* Holds the pool's live grants that touch the file's doors against the file.
+ * Accepted: a = 0 where they are equal, else the lowest grant number at which they differ: absent from one, or unequal.
+ * Refuses 1, then 10, then for each block rising 12, 11 and 13 (b = block), then 9. Leaves: everything as it was. */
+uint64_t lg_match(const uint16_t *pool, size_t pool_words, const uint8_t *file, size_t file_bytes);
 
 /* The verdict on one block of a file, judged alone.
  * Refuses 10, 12 (b = block) and 11 (b = block), in this order. Leaves: everything as it was. */

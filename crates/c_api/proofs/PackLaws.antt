@@ -39,12 +39,12 @@ module _ (number : ℕ) (values : List ℕ) {n v r : ℕ} (e : n ≡ number) (f 
   pub refusal-other : (n ≡ 8 → ⊥) → r ≡ word n 0 v → r ≡ packRefusal number values
   refusal-other other p = rw (← e, ← f, ne-eqb n 8 other) p
 
-module _ {a : Answer} {r : ℕ} {memory : List ℕ} {s : Step (List ℕ)} (p : r ≡ pack a) where
-  pub packs-pool : Leaves a memory s → PacksPool r memory s
-  packs-pool d = record { answered = p ∙ ap pack (d .answered); left = d .left }
+module _ {a : Answer} {r : ℕ} {memory : List ℕ} {s : Step (List ℕ)} where
+  pub packs-pool : r ≡ pack a → Leaves a memory s → PacksPool r memory s
+  packs-pool p d = record { answered = p ∙ ap pack (d .answered); left = d .left }
 
-  pub packs-lent : Lends a memory s → PacksLent r memory s
-  packs-lent d = record { answered = p ∙ ap pack (d .answered); left = d .left }
+  pub packs-lent : (packing : Answer → ℕ) → r ≡ packing a → Lends a memory s → PacksLent packing r memory s
+  packs-lent packing p d = record { answered = p ∙ ap packing (d .answered); left = d .left }
 
 pub packs-out : {a b : Answer} {r : ℕ} {out before : List ℕ} → a ≡ b → PacksOut r out before a → PacksOut r out before b
 packs-out e p = subst (PacksOut _ _ _) e p

@@ -1,6 +1,6 @@
 -- How a C call's contract says that it returned and left what the definition of its call gives.
 --   PacksPool word pool r          a call that may change the pool
---   PacksLent word lent r          list: the lent list
+--   PacksLent packing word lent r  list and write: the lent list, the lent bytes
 --   PacksOut word out before r     decide: its ten words
 --   grantWords values before       the ten words: the whole grant and then 0; where there is no grant, as they were
 --   outAfter answer before         the ten words after decide's answer
@@ -27,8 +27,8 @@ pub record PacksPool (word : ℕ) (pool : List ℕ) (r : Step (List ℕ)) : Type
   pub answered : word ≡ pack (r .answer)
   pub left : pool ≡ r .state
 
-pub record PacksLent (word : ℕ) (lent : List ℕ) (r : Step (List ℕ)) : Type 0 where
-  pub answered : word ≡ pack (r .answer)
+pub record PacksLent (packing : Answer → ℕ) (word : ℕ) (lent : List ℕ) (r : Step (List ℕ)) : Type 0 where
+  pub answered : word ≡ packing (r .answer)
   pub left : lent ≡ r .lent
 
 pub record PacksOut (word : ℕ) (out before : List ℕ) (answer : Answer) : Type 0 where

@@ -1,8 +1,9 @@
 -- An answer of document 01's numbers as the one word that a C call returns.
 --   word number a b     bits 0 to 7 the fault's number (0: accepted), bits 8 to 31 a, bits 32 to 63 b
 --   packRefusal n vs    a refusal: fault 8's value (the count needed) is a, any other fault's value is b
---   pack answer         an accepted answer's first value is a: list, decide; of start, grant, revoke and the verdict on a block nothing
+--   pack answer         an accepted answer's first value is a: list, decide, match; of start, grant, revoke, load and the verdict on a block nothing
 --   packPair answer     its first value is a, its second is b: count
+--   packLength answer   its first value is b: write
 --   packPart f i        the part of block i's records: a its length, b where it starts in the file; both 0 where the part is empty
 --   boxOf               six arguments as document 01's box
 -- A value is taken modulo what its bits hold. The values of every call fit them: counts are at most 2,048, lengths and places in a file
@@ -38,6 +39,10 @@ pack (refused number values) = packRefusal number values
 abbrev pub packPair : Answer → ℕ
 packPair (accepted values) = word 0 (firstOf values) (secondOf values)
 packPair (refused number values) = packRefusal number values
+
+abbrev pub packLength : Answer → ℕ
+packLength (accepted values) = word 0 0 (firstOf values)
+packLength (refused number values) = packRefusal number values
 
 unfoldable pub packPart : List ℕ → ℕ → ℕ
 packPart f i =

@@ -3,14 +3,19 @@
 ghost use mathlib.Core.Path.{_≡_};
 ghost use Rattle.model.specs.Call.{request};
 ghost use Rattle.index.specs.Calls.{startCall, grantCall, revokeCall, listCall, decideCall, countCall};
+ghost use Rattle.index.specs.FileCalls.{writeCall, loadCall, matchCall};
 ghost use Rattle.grants_file.specs.Answers.{readAnswer};
-ghost use Rattle.c_api.specs.Pack.{pack, packPair, packPart, boxOf};
+ghost use Rattle.c_api.specs.Pack.{pack, packPair, packLength, packPart, boxOf};
 ghost use Rattle.c_api.specs.Contract.{PacksPool, PacksLent, PacksOut};
 use crate::pack::pack_counted;
 use crate::pack::pack_decision;
 use crate::pack::pack_listed;
+use crate::pack::pack_matched;
 use crate::pack::pack_outcome;
+use crate::pack::pack_written;
 use crate::pack::word;
+use file_calls::load::load;
+use file_calls::matching::match_file;
 use grants_file::block::BLOCK_BYTES;
 use grants_file::block::RECORDS_PLACE;
 use grants_file::block_read::block_part;
@@ -79,7 +84,7 @@ pub extern "C" fn lg_list(
     quarter_to: u16,
     list: &mut [u16],
 ) -> u64
-    ensures { λ r. ⌜ PacksLent r (now (list .exit)) (listCall (now (pool .entry)) (boxOf «staff_from» «staff_to» «door_from» «door_to» «quarter_from» «quarter_to») (now (list .entry))) ⌝ }
+    ensures { λ r. ⌜ PacksLent pack r (now (list .exit)) (listCall (now (pool .entry)) (boxOf «staff_from» «staff_to» «door_from» «door_to» «quarter_from» «quarter_to») (now (list .entry))) ⌝ }
 {
     let bounds = Box {
         staff_from,
@@ -112,6 +117,30 @@ pub extern "C" fn lg_count(pool: &[u16]) -> u64
     ensures { λ r. ⌜ r ≡ packPair (countCall (now (pool .entry)) .answer) ⌝ }
 {
     pack_counted(count(pool))
+}
+
+// Refuses 1, 2, 9 and 14, in this order. Bytes past the file stay.
+#[no_mangle]
+pub extern "C" fn lg_write(pool: &[u16], door_from: u16, door_to: u16, bytes: &mut [u8]) -> u64
+    ensures { λ r. ⌜ PacksLent packLength r (now (bytes .exit)) (writeCall (now (pool .entry)) (record { from = «door_from»; to = «door_to» }) (now (bytes .entry))) ⌝ }
+{
+    pack_written(file_calls::write::write(pool, door_from, door_to, bytes))
+}
+
+// Refuses 1, the file's faults (10, then per block rising 12, 11, 13) and 6, in this order.
+#[no_mangle]
+pub extern "C" fn lg_load(pool: &mut [u16], file: &[u8]) -> u64
+    ensures { λ r. ⌜ PacksPool r (now (pool .exit)) (loadCall (now (pool .entry)) (now (file .entry))) ⌝ }
+{
+    pack_outcome(load(pool, file))
+}
+
+// Refuses 1, the file's faults (as lg_load) and 9, in this order.
+#[no_mangle]
+pub extern "C" fn lg_match(pool: &[u16], file: &[u8]) -> u64
+    ensures { λ r. ⌜ r ≡ pack (matchCall (now (pool .entry)) (now (file .entry)) .answer) ⌝ }
+{
+    pack_matched(match_file(pool, file))
 }
 
 // The verdict on one block: refuses 10, 12 and 11, in this order.

@@ -1,19 +1,20 @@
 // The packing of an answer into one word (specs/Pack).
 ghost use mathlib.Core.Path.{_≡_};
 ghost use mathlib.Core.List.{[], _∷_, _++_};
-ghost use Rattle.model.specs.Kind.{kindNumber};
 ghost use Rattle.model.specs.Grant.{grantValues};
 ghost use Rattle.model.specs.Fault.{faultNumber, faultValues};
-ghost use Rattle.model.specs.Answer.{outcomeAnswer, listedAnswer, decisionAnswer, countedAnswer};
-ghost use Rattle.c_api.specs.Pack.{word, firstOf, packRefusal, pack, packPair};
+ghost use Rattle.model.specs.Answer.{outcomeAnswer, listedAnswer, decisionAnswer, countedAnswer, writtenAnswer, matchedAnswer};
+ghost use Rattle.c_api.specs.Pack.{word, firstOf, packRefusal, pack, packPair, packLength};
 ghost use Rattle.c_api.specs.Contract.{PacksOut};
 use model::Counted;
 use model::Decision;
 use model::Fault;
 use model::Grant;
-use model::Kind;
 use model::Listed;
+use model::Matched;
 use model::Outcome;
+use model::Written;
+use model::kinds::kind_number;
 
 // Bits 0 to 7 the number, 8 to 31 `a`, 32 to 63 `b`.
 pub fn word(number: u64, a: u64, b: u64) -> u64
@@ -104,12 +105,22 @@ pub fn pack_counted(counted: Counted) -> u64
     }
 }
 
-fn kind_number(kind: Kind) -> u16
-    ensures { λ r. ⌜ r ≡ kindNumber kind ⌝ }
+pub fn pack_written(written: Written) -> u64
+    ensures { λ r. ⌜ r ≡ packLength (writtenAnswer written) ⌝ }
 {
-    match kind {
-        Kind::Bars => 0,
-        Kind::Opens => 1,
+    match written {
+        Written::Length(length) => word(0, 0, length as u64),
+        Written::Refused(fault) => pack_fault(fault),
+    }
+}
+
+pub fn pack_matched(matched: Matched) -> u64
+    ensures { λ r. ⌜ r ≡ pack (matchedAnswer matched) ⌝ }
+{
+    match matched {
+        Matched::Equal => word(0, 0, 0),
+        Matched::Differs(number) => word(0, number as u64, 0),
+        Matched::Refused(fault) => pack_fault(fault),
     }
 }
 
@@ -122,7 +133,7 @@ fn words_of(g: Grant) -> [u16; 10]
     [
         g.number,
         g.rank as u16,
-        kind_number(kind),
+        kind_number(kind) as u16,
         b.staff_from,
         b.staff_to,
         b.door_from,

@@ -7,13 +7,13 @@
 --   part-written, length-rest    what follows a place in the bytes, with a block at its start
 --   file-written       block 0 and the blocks of records are the file
 -- Assumes nothing.
-use Prim.Native.Nat.{ℕ, zero, suc, _+_, _-_, _*_, _<_, _≤_}
+use Prim.Native.Nat.{ℕ, suc, _+_, _-_, _*_, _<_, _≤_}
 use mathlib.Core.Path.{_≡_, refl, sym, ap, _∙_}
 use mathlib.Core.List.{List, [], _∷_, _++_, map, flatMap, map-append, append-nil, append-assoc}
 use native.Mathlib.Numerals.{add-one, one-add}
 use native.Mathlib.Omega.{arith}
 use lib.ListN.{length, take, drop, getD, length-map, length-take, length-drop, length-append, take-append-drop, drop-of-length-le}
-use lib.Seq.{sets, take-suc, take-all, take-at, drop-at, drop-drop, getD-drop, length-take-le, drop-append-add}
+use lib.Seq.{sets, take-suc, take-all, take-at, drop-drop, getD-drop, length-take-le, drop-append-add}
 use Rattle.lists.specs.Overwrite.{overwrite}
 use Rattle.lists.specs.Ranges.{countFrom}
 use Rattle.lists.proofs.RangeLaws.{length-countFrom}

@@ -3,7 +3,6 @@ ghost use mathlib.Core.Path.{_≡_};
 ghost use Prim.Native.Nat.{_+_, _≤_};
 ghost use lib.ListN.{length};
 ghost use lib.Seq.{sets};
-ghost use Rattle.model.specs.Kind.{kindOf, kindNumber};
 ghost use Rattle.model.specs.Box.{doorsOf};
 ghost use Rattle.model.specs.Overlap.{overlapOn};
 ghost use Rattle.model.specs.Arguments.{reversedBox};
@@ -14,24 +13,10 @@ use crate::bytes::high;
 use crate::bytes::low;
 use model::Box;
 use model::Grant;
-use model::Kind;
+use model::kinds::kind_number;
+use model::kinds::kind_of;
 
 pub const RECORD_BYTES: usize = 16;
-
-fn kind_of(number: u8) -> Kind
-    ensures { λ r. ⌜ r ≡ kindOf number ⌝ }
-{
-    if number == 1 { Kind::Opens } else { Kind::Bars }
-}
-
-fn kind_number(kind: Kind) -> u8
-    ensures { λ r. ⌜ r ≡ kindNumber kind ⌝ }
-{
-    match kind {
-        Kind::Bars => 0,
-        Kind::Opens => 1,
-    }
-}
 
 fn bounds_at(bytes: &[u8], at: usize) -> Box
     requires { ⌜ at + recordBytes ≤ length (now bytes) ⌝ }

@@ -3,6 +3,7 @@
 
 pub mod bounds;
 pub mod decide;
+pub mod kinds;
 pub mod same;
 
 // Document 01's kind of a grant: 0 bars, 1 opens.

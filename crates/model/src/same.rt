@@ -2,21 +2,11 @@
 ghost use mathlib.Core.Path.{_≡_};
 ghost use lib.Dec.{eqb};
 ghost use Rattle.lists.specs.Tests.{sameNumbers};
-ghost use Rattle.model.specs.Kind.{kindNumber};
 ghost use Rattle.model.specs.Box.{boxValues};
 ghost use Rattle.model.specs.Grant.{sameGrant};
 use crate::Box;
 use crate::Grant;
-use crate::Kind;
-
-fn kind_number(kind: Kind) -> u8
-    ensures { λ r. ⌜ r ≡ kindNumber kind ⌝ }
-{
-    match kind {
-        Kind::Bars => 0,
-        Kind::Opens => 1,
-    }
-}
+use crate::kinds::kind_number;
 
 // Whether two boxes have the same six values.
 fn same_box(a: Box, b: Box) -> bool

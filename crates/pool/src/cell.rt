@@ -3,7 +3,6 @@ ghost use mathlib.Core.Path.{_≡_};
 ghost use Prim.Native.Nat.{_<_, _≤_};
 ghost use lib.ListN.{length};
 ghost use Rattle.model.specs.Limits.{maxGrants};
-ghost use Rattle.model.specs.Kind.{kindOf, kindNumber};
 ghost use Rattle.pool.specs.Capacity.{poolLength};
 ghost use Rattle.pool.specs.Layout.{cellWords};
 ghost use Rattle.pool.specs.Cell.{grantAt, cellOf, withCell};
@@ -14,22 +13,8 @@ use crate::layout::field;
 use crate::layout::place_of;
 use model::Box;
 use model::Grant;
-use model::Kind;
-
-fn kind_of(number: u16) -> Kind
-    ensures { λ r. ⌜ r ≡ kindOf number ⌝ }
-{
-    if number == 1 { Kind::Opens } else { Kind::Bars }
-}
-
-fn kind_number(kind: Kind) -> u16
-    ensures { λ r. ⌜ (r ≡ kindNumber kind) × (r < 2) ⌝ }
-{
-    match kind {
-        Kind::Bars => 0,
-        Kind::Opens => 1,
-    }
-}
+use model::kinds::kind_number;
+use model::kinds::kind_of;
 
 fn bounds_at(pool: &[u16], cell: usize) -> Box
     requires { ⌜ (0 < cell) × (cell ≤ maxGrants) × (poolLength cell ≤ length (now pool)) ⌝ }
@@ -54,7 +39,7 @@ pub fn grant_at(pool: &[u16], cell: usize) -> Grant
     Grant {
         number: field(pool, cell, Field::Number),
         rank: (rank_kind / 2 % 256) as u8,
-        kind: kind_of(rank_kind % 2),
+        kind: kind_of((rank_kind % 2) as u8),
         bounds: bounds_at(pool, cell),
     }
 }
@@ -79,7 +64,7 @@ pub fn store_grant(pool: &mut [u16], cell: usize, g: Grant)
 {
     let b = g.bounds;
     let kind = g.kind;
-    let rank_kind = g.rank as u16 * 2 + kind_number(kind);
+    let rank_kind = g.rank as u16 * 2 + kind_number(kind) as u16;
     let words = [
         0,
         0,

@@ -1,4 +1,5 @@
 -- `lg_list` meets its contract: the answer of `list`, packed. Assumes nothing.
+use Rattle.c_api.specs.Pack.{pack}
 use Rattle.c_api.proofs.PackLaws.{packs-lent}
 use borrow.Author.Needs.{needs}
 use Rattle.c_api.proofs.lg_list.Statement.{statement}
@@ -14,7 +15,7 @@ same-length : tie.Need-same-length
 same-length c = search needs
 
 returns : tie.Need-returns
-returns c = packs-lent (c .pack-listed .ensures) (c .before .before .before .list .ensures)
+returns c = packs-lent pack (c .pack-listed .ensures) (c .before .before .before .list .ensures)
 
 pub lg-list-spec : {M : Type 1} → statement M
 lg-list-spec = tie.close (tie.spec list-requires pack-listed-requires same-length returns)

@@ -52,7 +52,7 @@ low-requires-7 c κs = search needs
 
 returns : tie.Need-returns
 unfolding encodeRecord flatMap
-returns c = rw (c .before .before .before .before .before .before .before .before .before .before .before .before .before .before .high .ensures, c .before .before .before .before .before .before .before .before .before .before .before .before .before .low .ensures, c .before .before .before .before .before .before .before .before .before .before .before .before .kind-number .ensures, c .before .before .before .before .before .before .before .before .before .before .before .high2 .ensures, c .before .before .before .before .before .before .before .before .before .before .low2 .ensures, c .before .before .before .before .before .before .before .before .before .high3 .ensures, c .before .before .before .before .before .before .before .before .low3 .ensures, c .before .before .before .before .before .before .before .high4 .ensures, c .before .before .before .before .before .before .low4 .ensures, c .before .before .before .before .before .high5 .ensures, c .before .before .before .before .low5 .ensures, c .before .before .before .high6 .ensures, c .before .before .low6 .ensures, c .before .high7 .ensures, c .low7 .ensures)
+returns c = rw (c .before .before .before .before .before .before .before .before .before .before .before .before .before .before .high .ensures, c .before .before .before .before .before .before .before .before .before .before .before .before .before .low .ensures, c .before .before .before .before .before .before .before .before .before .before .before .before .kind-number .ensures .0, c .before .before .before .before .before .before .before .before .before .before .before .high2 .ensures, c .before .before .before .before .before .before .before .before .before .before .low2 .ensures, c .before .before .before .before .before .before .before .before .before .high3 .ensures, c .before .before .before .before .before .before .before .before .low3 .ensures, c .before .before .before .before .before .before .before .high4 .ensures, c .before .before .before .before .before .before .low4 .ensures, c .before .before .before .before .before .high5 .ensures, c .before .before .before .before .low5 .ensures, c .before .before .before .high6 .ensures, c .before .before .low6 .ensures, c .before .high7 .ensures, c .low7 .ensures)
 
 pub record-of-spec : {M : Type 1} → statement M
 record-of-spec =

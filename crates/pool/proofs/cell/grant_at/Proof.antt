@@ -13,6 +13,9 @@ field-requires-2 c κs = search needs
 cast-t8 : tie.Need-cast-t8
 cast-t8 c = search needs
 
+cast-kind-of : tie.Need-cast-kind-of
+cast-kind-of c = search needs
+
 kind-of-requires : tie.Need-kind-of-requires
 kind-of-requires c κs = search needs
 
@@ -26,4 +29,4 @@ returns c = rw (c .bounds-at .ensures, c .before .kind-of .ensures, c .before .b
 pub grant-at-spec : {M : Type 1} → statement M
 grant-at-spec =
     tie.close
-    (tie.spec field-requires field-requires-2 cast-t8 kind-of-requires bounds-at-requires returns)
+    (tie.spec field-requires field-requires-2 cast-t8 cast-kind-of kind-of-requires bounds-at-requires returns)

@@ -12,6 +12,9 @@ mul-rank-kind c = search needs
 kind-number-requires : tie.Need-kind-number-requires
 kind-number-requires c κs = search needs
 
+cast-rank-kind-2 : tie.Need-cast-rank-kind-2
+cast-rank-kind-2 c = search needs
+
 add-rank-kind : tie.Need-add-rank-kind
 add-rank-kind c = search needs
 
@@ -31,6 +34,7 @@ store-grant-spec =
     cast-rank-kind
     mul-rank-kind
     kind-number-requires
+    cast-rank-kind-2
     add-rank-kind
     store-cell-requires
     same-length

@@ -1,8 +1,7 @@
--- `cell::kind_of` meets its contract. Assumes nothing.
+-- `kinds::kind_of` meets its contract. Assumes nothing.
 use borrow.Author.Tests.{eq-eqb, ne-eqb}
-use borrow.Author.Needs.{needs}
-use Rattle.pool.proofs.cell.kind_of.Statement.{statement}
-use Rattle.pool.proofs.cell.kind_of.Tie as tie
+use Rattle.model.proofs.kinds.kind_of.Statement.{statement}
+use Rattle.model.proofs.kinds.kind_of.Tie as tie
 
 returns : tie.Need-returns
 returns c = rw (eq-eqb _ _ (c .if1 .taken))

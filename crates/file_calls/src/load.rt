@@ -1,0 +1,51 @@
+// load: makes the pool what start and then the file's grants, in their order, make it (document 01, "The grants file").
+// Refuses by 1, the file's faults, then 6. The file is judged whole before a word is written.
+ghost use mathlib.Core.Path.{_≡_};
+ghost use Rattle.model.specs.Answer.{outcomeAnswer};
+ghost use Rattle.grants_file.specs.File.{totalIn, grantsIn};
+ghost use Rattle.grants_file.specs.FileSets.{Accepted};
+ghost use Rattle.index.specs.FileCalls.{grantAll, loadCall};
+ghost use Rattle.index.specs.Contract.{Leaves};
+use grants_file::grants::grant_in;
+use grants_file::grants::total_in;
+use grants_file::verdict::judge;
+use index::grant::grant;
+use model::Fault;
+use model::Outcome;
+use model::kinds::kind_number;
+use pool::fresh::make_fresh;
+use pool::layout::length_capacity;
+
+// Grants of an accepted file, one after the other.
+fn grant_all(pool: &mut [u16], file: &[u8], total: usize)
+    requires { ⌜ Accepted (now file) × (total ≡ totalIn (now file)) ⌝ }
+    ensures { λ r. ⌜ now (pool .exit) ≡ grantAll (now (pool .entry)) (grantsIn (now (file .entry))) ⌝ }
+{
+    let mut i: usize = 0;
+    while i < total {
+        let g = grant_in(file, i);
+        let kind = g.kind;
+        grant(pool, g.number, g.rank, kind_number(kind), g.bounds);
+        i += 1;
+    }
+}
+
+pub fn load(pool: &mut [u16], file: &[u8]) -> Outcome
+    ensures { λ r. ⌜ Leaves (outcomeAnswer r) (now (pool .exit)) (loadCall (now (pool .entry)) (now (file .entry))) ⌝ }
+{
+    let cells = length_capacity(pool);
+    if cells == 0 {
+        return Outcome::Refused(Fault::BadPool);
+    }
+    let verdict = judge(file);
+    let Outcome::Done = verdict else {
+        return verdict;
+    };
+    let total = total_in(file);
+    if cells < total {
+        return Outcome::Refused(Fault::Full);
+    }
+    make_fresh(pool, cells);
+    grant_all(pool, file, total);
+    Outcome::Done
+}
