@@ -5,8 +5,7 @@
 -- Assumes nothing.
 use Prim.Native.Nat.{ℕ}
 use mathlib.Core.Path.{_≡_, sym, ap, ap₂, _∙_}
-use mathlib.Core.Bool.{false}
-use mathlib.Core.List.{List, [], _∷_, _++_, map}
+use mathlib.Core.List.{List, [], _∷_, map}
 use mathlib.Core.Option.{Option}
 use lib.ListN.{take}
 use Rattle.lists.specs.Sort.{sortBy}
@@ -17,13 +16,12 @@ use Rattle.model.specs.declared.Matched.{Matched}
 use Rattle.model.specs.declared.Outcome.{Outcome}
 use Rattle.model.specs.declared.Outcome.the-variants.{Done, Refused}
 use Rattle.model.specs.Answer.{refusal, outcomeAnswer, matchedAnswer}
-use Rattle.model.specs.Refusal.{Cause, _if_, Step, stepBy, refusing}
+use Rattle.model.specs.Refusal.{_if_, Step, stepBy, refusing}
 use Rattle.model.proofs.RefusalLaws.{firstFault-append}
 use Rattle.geometry.specs.Region.{Region}
 use Rattle.geometry.specs.SearchRange.{rangeOfDoors}
 use Rattle.pool.specs.Cell.{grantAt}
 use Rattle.pool.specs.Capacity.{poolCapacity}
-use Rattle.adt.specs.Search.{Search}
 use Rattle.grants_file.specs.File.{doorsIn, grantsIn}
 use Rattle.grants_file.specs.Verdict.{fileCauses}
 use Rattle.grants_file.specs.FileSets.{Accepted}

@@ -1,4 +1,4 @@
--- What a search leaves for list, decide, count and write: the cells of its hits, in order, at the start of a list of 2,048 words.
+-- What a search leaves for list, decide, count, write and match: the cells of its hits, in order, at the start of a list of 2,048 words.
 --   CellsAt w hits n       the first n of the list are cells of the pool w
 --   HitsAt w q hits n      they are the hits of the search for the range q
 --   numbersAt w ks         the numbers of the grants in the cells ks

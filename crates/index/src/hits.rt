@@ -1,4 +1,4 @@
-// The search that list, decide, count and write make.
+// The search that list, decide, count, write and match make.
 ghost use mathlib.Core.Path.{_≡_};
 ghost use Prim.Native.Nat.{_≤_};
 ghost use lib.ListN.{length};

@@ -1,6 +1,5 @@
 // Whether two grants are one: whole grants are compared, rank and kind and the six values included (document 01, "The grants file": match).
 ghost use mathlib.Core.Path.{_≡_};
-ghost use lib.Dec.{eqb};
 ghost use Rattle.lists.specs.Tests.{sameNumbers};
 ghost use Rattle.model.specs.Box.{boxValues};
 ghost use Rattle.model.specs.Grant.{sameGrant};

@@ -1,6 +1,5 @@
 -- `write_file::write_file` meets its contract: block 0, then the blocks of records. Assumes nothing.
 use native.Mathlib.Omega.{arith}
-use mathlib.Core.Path.{_∙_}
 use Rattle.file_calls.proofs.WriteFileLaws.{file-written}
 use borrow.Author.Needs.{needs}
 use Rattle.file_calls.proofs.write_file.write_file.Statement.{statement}
