@@ -23,7 +23,9 @@ fn main() -> Result<(), Fault> {
     })?;
 
     // A refusal says why, and leaves the index as it was.
-    println!("number 9 revoked: {:?}", office.revoke(9));
+    if let Err(fault) = office.revoke(9) {
+        println!("number 9 revoked: refused with {}, {fault}", fault.number());
+    }
 
     // The file has all grants that touch the bank's doors, whole.
     let cut = office.write((1, 20))?;

@@ -39,7 +39,7 @@ use call::Call;
 use compare::{run, Case, Tally};
 use random::Random;
 use std::fs::File;
-use std::io::{BufWriter, Write};
+use std::io::{BufWriter, Error, Write};
 use std::process::ExitCode;
 use suite::Family;
 use wrong::Wrong;
@@ -150,28 +150,21 @@ fn summary(seed: u64, counts: &Counts, uncaught: usize) -> String {
     )
 }
 
-/// Some calls of each case of some rounds.
+/// Writes some calls of each case of some rounds, held against the plain implementation too.
 fn write_trace(path: &str, seed: u64) -> bool {
-    let written = || -> std::io::Result<usize> {
-        let mut out = BufWriter::new(File::create(path)?);
+    let mut counts = Counts::default();
+    let written = File::create(path).and_then(|file| {
+        let mut out = BufWriter::new(file);
         let mut random = Random::new(seed);
-        let mut calls = 0;
         for i in 0..TRACE_ROUNDS {
-            suite::round(&mut random, i, &mut |_, case: &Case| {
+            suite::round(&mut random, i, &mut |family, case: &Case| {
                 let step = case.calls.len().div_ceil(TRACE_CALLS);
-                let calls_of_case = case.calls.iter().step_by(step).cloned().collect();
-                calls += trace::write(&Case { pool: case.pool.clone(), calls: calls_of_case }, &mut out)?;
-                Ok::<(), std::io::Error>(())
+                let some = Case { pool: case.pool.clone(), calls: case.calls.iter().step_by(step).cloned().collect() };
+                counts.visit(family, &some).map_err(|()| Error::other("the library differs"))?;
+                trace::write(&some, &mut out)
             })?;
         }
-        out.flush()?;
-        Ok(calls)
-    };
-    match written() {
-        Ok(_) => true,
-        Err(error) => {
-            eprintln!("compare: {path}: {error}");
-            false
-        }
-    }
+        out.flush()
+    });
+    written.inspect_err(|error| println!("compare: {path}: {error}")).is_ok()
 }
