@@ -71,7 +71,10 @@ impl Puts<'_> {
         let n = self.number(6);
         self.numbers(6, &[0, 1, n.wrapping_sub(1), n.wrapping_add(1), n.wrapping_add(31), n.wrapping_sub(31), 2048, 2049, 65535]);
         let (from, to) = (self.number(8), self.number(10));
-        self.spans(8, &[(to, from), (to.wrapping_add(1), to), (65535, 0), (0, 0), (65535, 65535), (0, from), (to, 65535), (0, 65535)]);
+        self.spans(
+            8,
+            &[(to, from), (to.wrapping_add(1), to), (65535, 0), (0, 0), (65535, 65535), (0, from), (to, 65535), (0, 65535)],
+        );
     }
 
     fn record_count(&mut self) {
@@ -96,7 +99,10 @@ impl Puts<'_> {
             self.spans(field, &[(to.wrapping_add(1), to), (from, from.wrapping_sub(1)), (65535, 0), (1, 0), (65535, 65534)]);
         }
         let (below, above) = (doors.0.wrapping_sub(1), doors.1.wrapping_add(1));
-        self.spans(at + 8, &[(0, below), (above, 65535), (0, doors.0), (doors.1, 65535), (below, above), (below, below), (above, above)]);
+        self.spans(
+            at + 8,
+            &[(0, below), (above, 65535), (0, doors.0), (doors.1, 65535), (below, above), (below, below), (above, above)],
+        );
     }
 }
 

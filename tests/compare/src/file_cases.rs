@@ -97,9 +97,8 @@ pub fn block_reads(file: &[u8]) -> Case {
     let count = blocks_in(file) as u64;
     let outside = [count, count + 1, 65535, 65536, 65537, 1 << 32, (1 << 32) + 1, 1 << 55, (1 << 55) + 1, 1 << 63, u64::MAX];
     let shared: Rc<[u8]> = file.into();
-    let calls = (0..count).chain(outside).flat_map(|block| {
-        [Call::Block(shared.clone(), block), Call::BlockPart(shared.clone(), block)]
-    });
+    let calls =
+        (0..count).chain(outside).flat_map(|block| [Call::Block(shared.clone(), block), Call::BlockPart(shared.clone(), block)]);
     case(file, 2048, calls)
 }
 

@@ -64,11 +64,13 @@ pub fn records_end(count: usize) -> usize {
 
 pub fn judge(file: &[u8], wrong: Wrong) -> Result<Contents, Refusal> {
     let blocks = blocks_of(file)?;
-    let (n, doors) = judge_head(blocks[0], blocks.len(), wrong).map_err(|(number, cause)| refuse(number, cause, 0, blocks.len()))?;
+    let (n, doors) =
+        judge_head(blocks[0], blocks.len(), wrong).map_err(|(number, cause)| refuse(number, cause, 0, blocks.len()))?;
     let mut grants = Vec::new();
     for (i, block) in blocks.iter().enumerate().skip(1) {
         let left = n.saturating_sub(RECORDS * (i - 1)).min(RECORDS);
-        judge_block(block, i, left, doors, &mut grants, wrong).map_err(|(number, cause)| refuse(number, cause, i, blocks.len()))?;
+        judge_block(block, i, left, doors, &mut grants, wrong)
+            .map_err(|(number, cause)| refuse(number, cause, i, blocks.len()))?;
     }
     Ok(Contents { doors, grants })
 }

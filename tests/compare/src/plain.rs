@@ -69,9 +69,7 @@ impl Plain {
         let free = matches!(outcome, Ok(None));
         let (answer, reached) = match outcome {
             Ok(answer) => (answer, None),
-            Err((fault, cause)) => {
-                (Some(Answer::Refused(fault)), Some(format!("{} {}{cause}", call.name(), fault.number)))
-            }
+            Err((fault, cause)) => (Some(Answer::Refused(fault)), Some(format!("{} {}{cause}", call.name(), fault.number))),
         };
         Expected { answer, lent, pool_is_free: free && matches!(call, Call::Grant(_) | Call::Revoke(_)), reached }
     }

@@ -163,7 +163,10 @@ fn chain(random: &mut Random, grant: &Grant) -> Vec<u16> {
     let mut words = vec![0; words_for(capacity)];
     words[0] = capacity as u16;
     let own = random.below(2 * length);
-    put_chain(&mut words, grant, length, |level| Grant { number: if level == own { grant.number } else { grant.number ^ 1 }, ..*grant });
+    put_chain(&mut words, grant, length, |level| Grant {
+        number: if level == own { grant.number } else { grant.number ^ 1 },
+        ..*grant
+    });
     let last = length as u16;
     match random.below(6) {
         0 => words[left_of(last)] = link(random, capacity),

@@ -16,9 +16,7 @@ fn catch(wrong: Wrong, seed: u64) -> Option<(Case, Difference)> {
         Ok(()) => Ok(()),
         Err(difference) => Err((case.clone(), difference)),
     };
-    (0..ROUNDS)
-        .find_map(|i| round(&mut random, i, &mut visit).err())
-        .or_else(|| long_round(&mut random, &mut visit).err())
+    (0..ROUNDS).find_map(|i| round(&mut random, i, &mut visit).err()).or_else(|| long_round(&mut random, &mut visit).err())
 }
 
 /// The wrong versions that were not caught.

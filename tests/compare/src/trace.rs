@@ -8,9 +8,9 @@ use std::io::{self, Write};
 
 /// CRC-32, as zlib has it.
 fn digest(bytes: impl IntoIterator<Item = u8>) -> u32 {
-    !bytes.into_iter().fold(!0, |sum, byte| {
-        (0..8).fold(sum ^ u32::from(byte), |sum, _| (sum >> 1) ^ (0xEDB8_8320 & (sum & 1).wrapping_neg()))
-    })
+    !bytes
+        .into_iter()
+        .fold(!0, |sum, byte| (0..8).fold(sum ^ u32::from(byte), |sum, _| (sum >> 1) ^ (0xEDB8_8320 & (sum & 1).wrapping_neg())))
 }
 
 pub fn write(case: &Case, out: &mut impl Write) -> io::Result<()> {

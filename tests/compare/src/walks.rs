@@ -95,7 +95,12 @@ pub fn search(words: &[u16], range: &Region, wrong: Wrong) -> Result<Vec<Hit>, N
     Walk::new(words, "search", wrong).enter(words[ROOT], 0, &WHOLE, range, &mut hits)?;
     if wrong == Wrong::HitsOnce {
         let mut seen = Vec::new();
-        hits.retain(|hit| !seen.contains(&hit.cell) && { seen.push(hit.cell); true });
+        hits.retain(|hit| {
+            !seen.contains(&hit.cell) && {
+                seen.push(hit.cell);
+                true
+            }
+        });
     }
     Ok(hits)
 }
