@@ -24,7 +24,7 @@ fn judge_alone(block: &[u8], i: usize, last: bool, wrong: Wrong) -> Result<usize
         0 => (0, HEAD_END),
         _ => {
             let count = usize::from(number_at(block, 6));
-            let lowest = if last { 1 } else { RECORDS };
+            let lowest = if last || wrong == Wrong::BlockReadTakesAnyCount { 1 } else { RECORDS };
             if !(lowest..=RECORDS).contains(&count) {
                 return Err((11, "record count"));
             }

@@ -36,8 +36,8 @@ impl Book {
         if self.is_full() {
             return Err(fault(6));
         }
-        self.live.push(grant);
-        self.live.sort_by_key(|grant| grant.number);
+        let place = self.live.partition_point(|other| other.number < grant.number);
+        self.live.insert(place, grant);
         Ok(())
     }
 
@@ -59,6 +59,7 @@ impl Book {
         if self.wrong == Wrong::ListDescending {
             numbers.reverse();
         }
+        let lent = if self.wrong == Wrong::LengthsCutTo16Bits { lent & 0xFFFF } else { lent };
         match numbers.len() > lent {
             true => Err(Fault { number: 8, value: numbers.len() as u32 }),
             false => Ok(numbers),

@@ -1,6 +1,6 @@
 //! Damage to a grants file, field by field with the check made right again: every cause of 11 and 13 that a block can have.
 
-use crate::file::{number_at, seal, BLOCK, CHECK, FIRST_RECORD, HEAD_END, RECORD};
+use crate::file::{number_at, put_number, seal, BLOCK, CHECK, FIRST_RECORD, HEAD_END, RECORD};
 use crate::judge::records_end;
 use crate::wrong::Wrong;
 
@@ -80,6 +80,17 @@ impl Puts<'_> {
     fn record_count(&mut self) {
         let count = self.number(6);
         self.numbers(6, &[0, 1, 30, 31, 32, count.wrapping_sub(1), count + 1, count + 256, 65535]);
+        for fewer in [0, 1, count / 2, count - 1] {
+            self.records_dropped(fewer);
+        }
+    }
+
+    /// A block of fewer records whose fill is right: wrong by its count alone.
+    fn records_dropped(&mut self, count: u16) {
+        let mut block = self.file[BLOCK * self.block..][..CHECK].to_vec();
+        put_number(&mut block, 6, count);
+        block[records_end(count.into())..].fill(0);
+        self.put(0, &block);
     }
 
     /// A record: its number against its neighbours, kind, spans, doors that touch or just don't.

@@ -28,10 +28,15 @@ pub fn sample(random: &mut Random, n: usize) -> Vec<u8> {
     file_of(DOORS, &grants, Wrong::Nothing)
 }
 
-/// An index that holds what the file says, then calls.
-fn case(file: &[u8], capacity: usize, calls: impl IntoIterator<Item = Call>) -> Case {
-    let loaded = Call::Load(file.into());
-    Case { pool: vec![0; words_for(capacity)], calls: std::iter::once(loaded).chain(calls).collect() }
+/// An index that holds what the file says, with some room, then calls. One with few cells for a long file, which stays empty: to
+/// load thousands of grants again and again takes long and tells no more about the file.
+fn case(file: &[u8], calls: impl IntoIterator<Item = Call>) -> Case {
+    let capacity = match grants_in(file) {
+        n if n > 1000 => 16,
+        n => n + 20,
+    };
+    let before = [Call::Start, Call::Load(file.into())];
+    Case { pool: vec![0; words_for(capacity)], calls: before.into_iter().chain(calls).collect() }
 }
 
 /// Every call on a file, with block reads of one block.
@@ -55,14 +60,14 @@ pub fn byte_by_byte(random: &mut Random, file: &[u8], step: usize) -> Case {
             calls_on(damaged(file, &[put]), (at / BLOCK) as u64)
         })
         .collect();
-    case(file, blocks_in(file) * 31, calls)
+    case(file, calls)
 }
 
 /// Each field of the blocks given damaged alone, the check made right again.
 pub fn field_by_field(file: &[u8], blocks: impl Iterator<Item = usize>) -> Case {
     let puts = blocks.flat_map(|block| block_damage(file, block));
     let calls: Vec<Call> = puts.flat_map(|put| calls_on(damaged(file, std::slice::from_ref(&put)), put.block as u64)).collect();
-    case(file, blocks_in(file) * 31, calls)
+    case(file, calls)
 }
 
 /// Two places damaged at once, the check made right or not: the order of the refusals.
@@ -75,7 +80,7 @@ pub fn two_at_once(random: &mut Random, file: &[u8], count: usize) -> Case {
             calls_on(damaged(file, &puts), puts[random.below(2)].block as u64)
         })
         .collect();
-    case(file, blocks_in(file) * 31, calls)
+    case(file, calls)
 }
 
 /// Lengths that are no file's, blocks too many, too few and exchanged.
@@ -87,9 +92,10 @@ pub fn lengths(random: &mut Random) -> Case {
     let mut files: Vec<Vec<u8>> = ends.iter().map(|end| longest[..*end].to_vec()).collect();
     let small = sample(random, 100);
     files.extend([small[BLOCK..].to_vec(), [&small[..], &[0; BLOCK]].concat(), [&small[..], &small[BLOCK..]].concat()]);
+    files.push([&small[..], &[0; 65536]].concat());
     files.push([&small[..BLOCK], &small[2 * BLOCK..3 * BLOCK], &small[BLOCK..2 * BLOCK], &small[3 * BLOCK..]].concat());
     let calls: Vec<Call> = files.into_iter().flat_map(|file| calls_on(file, 0).into_iter().collect::<Vec<_>>()).collect();
-    case(&longest[..most], 2048, calls)
+    case(&longest[..most], calls)
 }
 
 /// Every block read, and numbers of blocks just outside and far off; some are inside when cut to fewer bits.
@@ -99,7 +105,7 @@ pub fn block_reads(file: &[u8]) -> Case {
     let shared: Rc<[u8]> = file.into();
     let calls =
         (0..count).chain(outside).flat_map(|block| [Call::Block(shared.clone(), block), Call::BlockPart(shared.clone(), block)]);
-    case(file, 2048, calls)
+    case(file, calls)
 }
 
 /// A file onto a pool that held anything, and onto an empty index.
@@ -125,7 +131,7 @@ pub fn checks_too_large(random: &mut Random) -> Case {
     put_number(last, CHECK, small);
     let large = Put { block: 2, at: CHECK, bytes: small.wrapping_add(65521).to_be_bytes().to_vec(), sealed: false };
     let calls = calls_on(damaged(&file, &[large]), 2);
-    case(&file, 40, calls)
+    case(&file, calls)
 }
 
 /// How many grants a file says that it has.

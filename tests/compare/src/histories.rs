@@ -102,13 +102,14 @@ impl Clerk<'_> {
         }
     }
 
-    /// What is needed, one less, more, nothing, or more than any pool needs.
+    /// What is needed, one less, more, nothing, or more than any pool needs; a length that is none when it is cut to 16 bits.
     fn lent(&mut self, needed: usize, most: usize) -> usize {
-        match self.random.below(6) {
-            0 => needed.saturating_sub(1),
-            1 => needed + 1 + self.random.below(40),
-            2 => 0,
-            3 => most,
+        match self.random.below(60) {
+            0 => 65536,
+            1..=9 => needed.saturating_sub(1),
+            10..=19 => needed + 1 + self.random.below(40),
+            20..=29 => 0,
+            30..=34 => most,
             _ => needed,
         }
     }

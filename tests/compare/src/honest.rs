@@ -70,7 +70,10 @@ impl Honest {
 
     /// The lowest number at which the grants that touch the file's doors and the file's differ: absent from one, or unequal.
     fn first_difference(&self, file: &Contents) -> Option<u16> {
-        let own = self.book.touching(file.doors);
+        let own = match self.wrong {
+            Wrong::MatchSeesOtherDoors => self.book.live.clone(),
+            _ => self.book.touching(file.doors),
+        };
         let numbers = own.iter().chain(&file.grants).map(|grant| grant.number);
         numbers.filter(|&number| self.seen(&own, number) != self.seen(&file.grants, number)).min()
     }

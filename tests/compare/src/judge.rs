@@ -41,9 +41,15 @@ pub fn refuse(number: u8, cause: &'static str, i: usize, count: usize) -> Refusa
     Refusal { fault: Fault { number, value: i as u32 }, cause, place }
 }
 
+fn wrong_check(block: &[u8], wrong: Wrong) -> bool {
+    let stored = number_at(block, CHECK);
+    let taken = if wrong == Wrong::CheckTakenModulo { stored % 65521 } else { stored };
+    taken != check_of_block(block, wrong)
+}
+
 /// The cause of 12 or 11 in check, mark or number, which every block has.
 pub fn wrong_frame(block: &[u8], i: usize, wrong: Wrong) -> Option<(u8, &'static str)> {
-    if number_at(block, CHECK) != check_of_block(block, wrong) {
+    if wrong_check(block, wrong) {
         return Some((12, "check"));
     }
     if block[..4] != MARK {
@@ -64,6 +70,11 @@ pub fn records_end(count: usize) -> usize {
 
 pub fn judge(file: &[u8], wrong: Wrong) -> Result<Contents, Refusal> {
     let blocks = blocks_of(file)?;
+    if wrong == Wrong::ChecksOfAllBlocksFirst {
+        if let Some(i) = blocks.iter().position(|block| wrong_check(block, wrong)) {
+            return Err(refuse(12, "check", i, blocks.len()));
+        }
+    }
     let (n, doors) =
         judge_head(blocks[0], blocks.len(), wrong).map_err(|(number, cause)| refuse(number, cause, 0, blocks.len()))?;
     let mut grants = Vec::new();

@@ -18,6 +18,7 @@ mod honest;
 mod judge;
 mod layout;
 mod lent;
+mod marked;
 mod plain;
 mod product;
 mod random;
@@ -38,6 +39,7 @@ mod wrong;
 use call::Call;
 use compare::{run, Case, Tally};
 use random::Random;
+use std::collections::BTreeSet;
 use std::fs::File;
 use std::io::{BufWriter, Error, Write};
 use std::process::ExitCode;
@@ -45,13 +47,16 @@ use suite::Family;
 use wrong::Wrong;
 
 /// Rounds of the run in the test command, and of the longer one, which also repeats the long round.
-const ROUNDS: usize = 36;
+const ROUNDS: usize = 27;
 const MANY_ROUNDS: usize = 900;
 /// Every so many rounds of a longer run comes a long one.
 const LONG_EVERY: usize = 30;
 /// Rounds that the trace takes its cases from, and how many calls of a case it takes.
 const TRACE_ROUNDS: usize = 2;
 const TRACE_CALLS: usize = 120;
+
+/// How many faults document 01 has.
+const FAULTS: usize = 14;
 
 struct Options {
     seed: u64,
@@ -124,30 +129,33 @@ fn compare_all(options: &Options) -> bool {
             return false;
         }
     }
-    let missing = required::missing(&counts.tally.reached);
-    missing.iter().for_each(|refusal| println!("compare: not reached: {refusal}"));
     let uncaught = self_test::uncaught(options.seed);
-    uncaught.iter().for_each(|wrong| println!("compare: not caught: {wrong:?}"));
     println!("{}", summary(options.seed, &counts, uncaught.len()));
-    missing.is_empty() && uncaught.is_empty()
+    let missing = required::missing(&counts.tally.reached);
+    let failing = marked::failing();
+    missing.iter().for_each(|refusal| println!("compare: not reached: {refusal}"));
+    uncaught.iter().for_each(|wrong| println!("compare: not caught: {wrong:?}"));
+    failing.iter().for_each(|name| println!("compare: marked cases that the scan gets wrong: {name}"));
+    missing.is_empty() && uncaught.is_empty() && failing.is_empty()
 }
 
 fn summary(seed: u64, counts: &Counts, uncaught: usize) -> String {
-    let reached = &counts.tally.reached;
-    let mut faults: Vec<&str> = reached.keys().filter_map(|refusal| refusal.split_whitespace().nth(1)).collect();
-    faults.sort();
-    faults.dedup();
     format!(
         "compare: seed {seed}: {} calls, {} files and {} scrambled pools as document 01 has them; {} faults reached by {} causes; \
          {} of {} wrong versions caught",
         counts.tally.calls,
         counts.files,
         counts.scrambled,
-        faults.len(),
-        reached.len(),
+        faults_in(&counts.tally),
+        counts.tally.reached.len(),
         wrong::ALL.len() - uncaught,
         wrong::ALL.len()
     )
+}
+
+/// How many of document 01's faults a run has seen.
+fn faults_in(tally: &Tally) -> usize {
+    tally.reached.keys().filter_map(|refusal| refusal.split_whitespace().nth(1)).collect::<BTreeSet<_>>().len()
 }
 
 /// Writes some calls of each case of some rounds, held against the plain implementation too.
@@ -166,5 +174,6 @@ fn write_trace(path: &str, seed: u64) -> bool {
         }
         out.flush()
     });
-    written.inspect_err(|error| println!("compare: {path}: {error}")).is_ok()
+    let written = written.inspect_err(|error| println!("compare: {path}: {error}")).is_ok();
+    written && faults_in(&counts.tally) == FAULTS
 }

@@ -99,7 +99,10 @@ impl Plain {
     fn capacity(&self, call: &Call) -> Option<usize> {
         let words = self.words();
         let capacity = capacity_of(words)?;
-        let any_first = matches!(call, Call::Start | Call::Load(_));
+        let any_first = match call {
+            Call::Start => self.wrong != Wrong::StartReadsTheFirstWord,
+            _ => matches!(call, Call::Load(_)),
+        };
         (any_first || usize::from(words[0]) == capacity).then_some(capacity)
     }
 

@@ -64,14 +64,22 @@ impl Scrambled {
             0..=3 => Call::Grant(grant),
             4..=5 => Call::Grant(self.grant),
             6..=9 => Call::Revoke(number),
-            10..=12 => Call::List(if random.one_in(4) { EVERYTHING } else { bounds }, random.pick(&[0, 1, 2, 12, 2048])),
+            10..=12 => Call::List(if random.one_in(4) { EVERYTHING } else { bounds }, lent(random, &[0, 1, 2, 12, 2048])),
             13..=15 => Call::Decide(bounds.map(|span| random.pick(&[span.0, span.1]))),
-            16..=18 => Call::Write(bounds[1], random.pick(&[0, 511, 512, 1024, 4096, 34816])),
+            16..=18 => Call::Write(bounds[1], lent(random, &[0, 511, 512, 1024, 4096, 34816])),
             19..=20 => Call::Match(file(random, style, bounds[1]).into()),
             21 if random.one_in(6) => Call::Load(file(random, style, bounds[1]).into()),
             22 if random.one_in(6) => Call::Start,
             _ => Call::Count,
         }
+    }
+}
+
+/// A length to lend, at times one that is none when it is cut to 16 bits.
+fn lent(random: &mut Random, lengths: &[usize]) -> usize {
+    match random.one_in(60) {
+        true => 65536,
+        false => random.pick(lengths),
     }
 }
 
@@ -174,7 +182,11 @@ fn chain(random: &mut Random, grant: &Grant) -> Vec<u16> {
         2 => words[right_of(last - 1)] = link(random, capacity),
         _ => {}
     }
-    words[FREE_HEAD] = if capacity > length { capacity as u16 } else { link(random, capacity) };
+    words[FREE_HEAD] = match random.below(3) {
+        0 => 0,
+        1 => link(random, capacity),
+        _ => capacity as u16,
+    };
     words
 }
 

@@ -45,6 +45,9 @@ fn grant_refusal(words: &[u16], grant: &Grant, wrong: Wrong) -> Result<(), Refus
     if !search(words, &range_of_number(grant.number), wrong).map_err(nine)?.is_empty() {
         return refuse(5, 0);
     }
+    if wrong == Wrong::FullBeforeTheWayDown && !free_cell(words, wrong).unwrap_or(true) {
+        return refuse(6, 0);
+    }
     way_down(words, &point_of(grant.number, &grant.bounds), wrong).map_err(nine)?;
     match free_cell(words, wrong).map_err(nine)? {
         true => Ok(()),

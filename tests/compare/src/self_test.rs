@@ -7,7 +7,7 @@ use crate::suite::{long_round, round};
 use crate::wrong::{Wrong, ALL};
 
 /// How many rounds a wrong version may last.
-const ROUNDS: usize = 9;
+const ROUNDS: usize = 27;
 
 /// The first case that shows a wrong version, and where.
 fn catch(wrong: Wrong, seed: u64) -> Option<(Case, Difference)> {

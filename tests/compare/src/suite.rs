@@ -51,6 +51,9 @@ fn files<E>(random: &mut Random, i: usize, visit: Visit<E>) -> Result<(), E> {
     visit(Family::File, &two_at_once(random, &file, 60))?;
     visit(Family::File, &byte_by_byte(random, &file, 29))?;
     visit(Family::File, &block_reads(&file))?;
+    if i.is_multiple_of(FILE_SIZES.len()) {
+        visit(Family::File, &checks_too_large(random))?;
+    }
     for capacity in [n.saturating_sub(1), n, n + 1] {
         visit(Family::File, &onto_pools(&file, capacity.max(1)))?;
     }
@@ -64,7 +67,6 @@ pub fn long_round<E>(random: &mut Random, visit: Visit<E>) -> Result<(), E> {
     let style = Style::deep(random);
     visit(Family::History, &history(random, 2048, 200, style))?;
     visit(Family::File, &lengths(random))?;
-    visit(Family::File, &checks_too_large(random))?;
     let file = sample(random, 70);
     visit(Family::File, &byte_by_byte(random, &file, 1))?;
     let longest = sample(random, 2048);

@@ -59,7 +59,8 @@ impl<'a> Walk<'a> {
     /// 001's three steps at a cell: test it, enter the left subtree, then the right.
     fn visit(&mut self, cell: u16, level: usize, region: &Region, range: &Region, hits: &mut Vec<Hit>) -> Result<(), Nine> {
         self.meet(cell, level)?;
-        if holds(range, &point_in(self.words, cell)) {
+        let point = point_in(self.words, cell);
+        if holds(range, &point) && (holds(region, &point) || self.wrong != Wrong::NoHitOutsideItsRegion) {
             hits.push(Hit { cell, level });
         }
         let (left, right) = (self.words[left_of(cell)], self.words[right_of(cell)]);

@@ -51,7 +51,9 @@ pub fn remove(words: &mut [u16], grant: &Grant, wrong: Wrong) {
     let unwanted = words[place];
     let last = terminal_place(words, place, wrong);
     let terminal = words[last];
-    words[last] = 0;
+    if terminal == unwanted || wrong != Wrong::LinksTakenBeforeTheCut {
+        words[last] = 0;
+    }
     if terminal != unwanted {
         words[left_of(terminal)] = words[left_of(unwanted)];
         words[right_of(terminal)] = words[right_of(unwanted)];

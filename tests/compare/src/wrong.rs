@@ -33,10 +33,19 @@ pub enum Wrong {
     HitsOnce,
     FileBeforePool,
     WalksBeforeArguments,
+    FullBeforeTheWayDown,
+    NoHitOutsideItsRegion,
+    StartReadsTheFirstWord,
+    LinksTakenBeforeTheCut,
+    BlockReadTakesAnyCount,
+    MatchSeesOtherDoors,
+    CheckTakenModulo,
+    ChecksOfAllBlocksFirst,
+    LengthsCutTo16Bits,
 }
 
 /// All of them, document 01 apart.
-pub const ALL: [Wrong; 29] = [
+pub const ALL: [Wrong; 38] = [
     Wrong::HigherNumberAtEqualRank,
     Wrong::EndsOutsideTheBox,
     Wrong::ListDescending,
@@ -66,4 +75,13 @@ pub const ALL: [Wrong; 29] = [
     Wrong::HitsOnce,
     Wrong::FileBeforePool,
     Wrong::WalksBeforeArguments,
+    Wrong::FullBeforeTheWayDown,
+    Wrong::NoHitOutsideItsRegion,
+    Wrong::StartReadsTheFirstWord,
+    Wrong::LinksTakenBeforeTheCut,
+    Wrong::BlockReadTakesAnyCount,
+    Wrong::MatchSeesOtherDoors,
+    Wrong::CheckTakenModulo,
+    Wrong::ChecksOfAllBlocksFirst,
+    Wrong::LengthsCutTo16Bits,
 ];
