@@ -49,14 +49,14 @@ fn blocks_in(file: &[u8]) -> usize {
     file.len() / BLOCK
 }
 
-/// Each `step`-th byte made another one.
-pub fn byte_by_byte(random: &mut Random, file: &[u8], step: usize) -> Case {
+/// Each `step`-th byte made another one, and the check left as it was or made right again.
+pub fn byte_by_byte(random: &mut Random, file: &[u8], step: usize, sealed: bool) -> Case {
     let bytes: Vec<usize> = (random.below(step)..file.len()).step_by(step).collect();
     let calls: Vec<Call> = bytes
         .into_iter()
         .flat_map(|at| {
             let byte = file[at] ^ (1 + random.below(255) as u8);
-            let put = Put { block: at / BLOCK, at: at % BLOCK, bytes: vec![byte], sealed: false };
+            let put = Put { block: at / BLOCK, at: at % BLOCK, bytes: vec![byte], sealed };
             calls_on(damaged(file, &[put]), (at / BLOCK) as u64)
         })
         .collect();

@@ -49,7 +49,7 @@ fn files<E>(random: &mut Random, i: usize, visit: Visit<E>) -> Result<(), E> {
     let n = grants_in(&file);
     visit(Family::File, &field_by_field(&file, 0..file.len() / 512))?;
     visit(Family::File, &two_at_once(random, &file, 60))?;
-    visit(Family::File, &byte_by_byte(random, &file, 29))?;
+    visit(Family::File, &byte_by_byte(random, &file, 29, i.is_multiple_of(2)))?;
     visit(Family::File, &block_reads(&file))?;
     if i.is_multiple_of(FILE_SIZES.len()) {
         visit(Family::File, &checks_too_large(random))?;
@@ -68,7 +68,8 @@ pub fn long_round<E>(random: &mut Random, visit: Visit<E>) -> Result<(), E> {
     visit(Family::History, &history(random, 2048, 200, style))?;
     visit(Family::File, &lengths(random))?;
     let file = sample(random, 70);
-    visit(Family::File, &byte_by_byte(random, &file, 1))?;
+    visit(Family::File, &byte_by_byte(random, &file, 1, false))?;
+    visit(Family::File, &byte_by_byte(random, &file, 1, true))?;
     let longest = sample(random, 2048);
     visit(Family::File, &field_by_field(&longest, [0, 34, 67].into_iter()))?;
     visit(Family::File, &block_reads(&longest))?;
