@@ -2,7 +2,7 @@
  *
  *     replay TRACE
  *
- * A line `pool WORDS` begins anew; every other line is a call, `=`, the answer's word, the pool's digest and the lent memory's. */
+ * A line `pool WORDS` begins anew; every other line is a call, `=`, the answer's word, and the digests of pool and lent memory. */
 #define _POSIX_C_SOURCE 200809L
 #include "lg.h"
 

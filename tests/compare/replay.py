@@ -3,7 +3,7 @@
 
     replay.py TRACE
 
-A line `pool WORDS` begins anew; every other line is a call, `=`, the word of the C interface, the pool's digest and the lent memory's.
+A line `pool WORDS` begins anew; every other line is a call, `=`, the word of the C interface, and the digests of pool and lent memory.
 """
 import array
 import os

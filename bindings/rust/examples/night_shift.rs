@@ -7,20 +7,15 @@ use locker_grants::{file, Bounds, Decision, Fault, Grant, Index, Kind, Match};
 /// Quarter-hours from the operator's base day: ten in the evening to six in the morning.
 const NIGHT: (u16, u16) = (88, 119);
 
+const STAFF: Grant =
+    Grant { number: 7, rank: 10, kind: Kind::Opens, bounds: Bounds { staff: (100, 199), doors: (1, 40), quarters: NIGHT } };
+const BARRED: Grant =
+    Grant { number: 3, rank: 20, kind: Kind::Bars, bounds: Bounds { staff: (150, 150), doors: (12, 12), quarters: (0, 65535) } };
+
 fn main() -> Result<(), Fault> {
     let mut office = Index::new(2048)?;
-    office.grant(&Grant {
-        number: 7,
-        rank: 10,
-        kind: Kind::Opens,
-        bounds: Bounds { staff: (100, 199), doors: (1, 40), quarters: NIGHT },
-    })?;
-    office.grant(&Grant {
-        number: 3,
-        rank: 20,
-        kind: Kind::Bars,
-        bounds: Bounds { staff: (150, 150), doors: (12, 12), quarters: (0, 65535) },
-    })?;
+    office.grant(&STAFF)?;
+    office.grant(&BARRED)?;
 
     // A refusal says why, and leaves the index as it was.
     if let Err(fault) = office.revoke(9) {

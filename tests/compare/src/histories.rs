@@ -24,7 +24,7 @@ pub fn history(random: &mut Random, capacity: usize, length: usize, style: Style
     let pool = (0..words_for(capacity)).map(|_| random.word()).collect();
     let book = Book::new(capacity, Wrong::Nothing);
     let mut clerk = Clerk { random, style, book, calls: vec![Call::Start] };
-    if capacity > 1000 {
+    if capacity > 1000 || clerk.random.one_in(2) {
         clerk.fill();
     }
     for _ in 0..length {
@@ -34,14 +34,13 @@ pub fn history(random: &mut Random, capacity: usize, length: usize, style: Style
 }
 
 impl Clerk<'_> {
-    /// Grants until a few cells are left, so that a short history sees a full pool.
+    /// Grants until few cells are left, if the style has as many numbers, so that a short history sees a full pool.
     fn fill(&mut self) {
-        let style = self.style;
-        self.style = Style::uniform();
-        while self.book.live.len() + 5 < self.book.capacity {
-            self.grant();
+        for _ in 0..self.book.capacity * 3 / 2 {
+            if self.book.live.len() + 3 < self.book.capacity {
+                self.grant();
+            }
         }
-        self.style = style;
     }
 
     fn next(&mut self) {

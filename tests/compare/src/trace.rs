@@ -1,5 +1,5 @@
 //! A trace: calls, the words that the C interface answers, and digests of the memory after each, for the C and Python programs to
-//! replay. A line `pool WORDS` begins anew; every other line is a call, `=`, the word, the pool's digest and that of the lent memory.
+//! replay. A line `pool WORDS` begins anew; every other line is a call, `=`, the word, and the digests of pool and lent memory.
 
 use crate::call::hex_of_words;
 use crate::compare::Case;
