@@ -61,10 +61,9 @@ impl Honest {
                 lend_file(lent, &file, *length)?;
                 Answer::Written(file.len())
             }
-            _ => match file {
-                Some(file) => Answer::Matched(self.first_difference(file)),
-                None => Answer::Counted { live: self.book.live.len(), free: self.book.capacity - self.book.live.len() },
-            },
+            Call::Match(_) => Answer::Matched(file.and_then(|file| self.first_difference(file))),
+            Call::Count => Answer::Counted { live: self.book.live.len(), free: self.book.capacity - self.book.live.len() },
+            _ => unreachable!("start, load and block read don't walk"),
         })
     }
 

@@ -59,10 +59,11 @@ impl Product {
             },
             Call::Block(file, block) => done(file::block(file, *block)?),
             Call::BlockPart(file, block) => part_of(file, file::block_part(file, *block)),
-            _ => {
+            Call::Count => {
                 let count = pool::count(words)?;
                 Answer::Counted { live: count.live, free: count.free }
             }
+            Call::List(..) | Call::Decide(_) | Call::Write(..) => unreachable!("these are lent memory"),
         })
     }
 

@@ -36,7 +36,9 @@ pub fn refusal(words: &[u16], call: &Call, file: Option<&Contents>, wrong: Wrong
             needed if needed > *lent => refuse(14, needed),
             _ => Ok(()),
         },
-        _ => hits(file.map_or(WHOLE, |file| range_of_doors(file.doors))).map(|_| ()),
+        Call::Match(_) => hits(file.map_or(WHOLE, |file| range_of_doors(file.doors))).map(|_| ()),
+        Call::Count => hits(WHOLE).map(|_| ()),
+        _ => unreachable!("start, load and block read don't walk"),
     }
 }
 

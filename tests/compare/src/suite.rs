@@ -66,6 +66,9 @@ pub fn long_round<E>(random: &mut Random, visit: Visit<E>) -> Result<(), E> {
     visit(Family::History, &history(random, 2048, 300, style))?;
     let style = Style::deep(random);
     visit(Family::History, &history(random, 2048, 200, style))?;
+    let capacity = 217 + random.below(1831);
+    let style = Style::any(random, capacity);
+    visit(Family::History, &history(random, capacity, 200, style))?;
     visit(Family::File, &lengths(random))?;
     let file = sample(random, 70);
     visit(Family::File, &byte_by_byte(random, &file, 1, false))?;
