@@ -1,0 +1,265 @@
+"""The grant index for luggage lockers: functions over its C interface (include/lg.h), by ctypes alone.
+
+`Index` owns its memory. The functions below it make the same calls on a pool that the caller holds: any writable buffer of unsigned
+16-bit words, as array.array("H"). A call that is refused raises `Refused` and leaves all memory as it was; a value that does not fit
+its field raises ValueError before the library is asked.
+
+The library is the file that the script `build` makes: liblg.so in the folder target/python of the repository, or what the environment
+variable LG_LIBRARY names.
+"""
+import array
+import collections
+import ctypes
+import operator
+import os
+
+WORD = 0xFFFF
+BYTE = 0xFF
+BARS, OPENS = 0, 1
+
+Bounds = collections.namedtuple("Bounds", "staff_from staff_to door_from door_to quarter_from quarter_to")
+Grant = collections.namedtuple("Grant", "number rank kind bounds")
+Count = collections.namedtuple("Count", "live free")
+
+FAULTS = {
+    1: "not a pool",
+    2: "a range ends before it starts",
+    3: "the grant number is 0",
+    4: "the kind is above 1",
+    5: "the number is already live",
+    6: "no cell is free",
+    7: "the number is not live",
+    8: "the list is too short",
+    9: "the pool's links are broken",
+    10: "not 1 to 68 whole blocks, or no such block",
+    11: "wrong mark, number, counts, door order or fill",
+    12: "wrong check",
+    13: "wrong record",
+    14: "too few bytes",
+}
+
+
+class Refused(Exception):
+    """A fault of document 01's table.
+
+    number: the fault's number there
+    value:  with 8 the count needed, with 14 the length needed, with 11, 12 and 13 the block; otherwise None
+    """
+
+    def __init__(self, number, value=None):
+        said = FAULTS.get(number, "fault %d" % number)
+        super().__init__(said if value is None else "%s (%d)" % (said, value))
+        self.number = number
+        self.value = value
+
+
+def _library():
+    here = os.path.dirname(os.path.abspath(__file__))
+    path = os.environ.get("LG_LIBRARY") or os.path.join(here, "..", "..", "target", "python", "liblg.so")
+    library = ctypes.CDLL(path)
+    for name, arguments in _ARGUMENTS.items():
+        function = getattr(library, "lg_" + name)
+        function.argtypes = arguments
+        function.restype = ctypes.c_uint64
+    return library
+
+
+_POOL = [ctypes.c_void_p, ctypes.c_size_t]
+_MEMORY = [ctypes.c_void_p, ctypes.c_size_t]
+_BOX = [ctypes.c_uint16] * 6
+_ARGUMENTS = {
+    "start": _POOL,
+    "grant": _POOL + [ctypes.c_uint16, ctypes.c_uint8, ctypes.c_uint8] + _BOX,
+    "revoke": _POOL + [ctypes.c_uint16],
+    "list": _POOL + _BOX + _MEMORY,
+    "decide": _POOL + [ctypes.c_uint16] * 3 + [ctypes.c_void_p],
+    "count": _POOL,
+    "write": _POOL + [ctypes.c_uint16] * 2 + _MEMORY,
+    "load": _POOL + _MEMORY,
+    "match": _POOL + _MEMORY,
+    "block": _MEMORY + [ctypes.c_uint64],
+    "block_part": _MEMORY + [ctypes.c_uint64],
+}
+_lg = _library()
+
+
+def _fits(highest, *values):
+    """The values, each of which is a whole number from 0 to `highest`: ctypes would cut a larger one."""
+    for value in values:
+        if not 0 <= operator.index(value) <= highest:
+            raise ValueError("%d is not 0 to %d" % (value, highest))
+    return values
+
+
+def _box(bounds):
+    if len(bounds) != 6:
+        raise ValueError("a box has six ends, not %d" % len(bounds))
+    return _fits(WORD, *bounds)
+
+
+def _lend(memory, element):
+    """Address and length of a writable buffer, and a view that holds it for the call."""
+    view = memoryview(memory)
+    if not view.c_contiguous or view.ndim != 1 or view.itemsize != ctypes.sizeof(element):
+        raise ValueError("not a flat buffer of %d-byte elements" % ctypes.sizeof(element))
+    held = (element * len(view)).from_buffer(view)
+    return ctypes.addressof(held), len(view), held
+
+
+def _apart(pool, lent):
+    """Both memories, which no call may be lent as one."""
+    if pool[0] < lent[0] + ctypes.sizeof(lent[2]) and lent[0] < pool[0] + ctypes.sizeof(pool[2]):
+        raise ValueError("the pool and the lent memory overlap")
+    return pool, lent
+
+
+def _words(memory):
+    return _lend(memory, ctypes.c_uint16)
+
+
+def _file(file):
+    """Address and length of a file's bytes, and a copy that holds them for the call."""
+    held = ctypes.create_string_buffer(bytes(file), len(file) + 1)
+    return ctypes.addressof(held), len(file), held
+
+
+def _unpack(word):
+    """The values a and b of an accepted call's word."""
+    number, a, b = word & 0xFF, word >> 8 & 0xFFFFFF, word >> 32
+    if number == 0:
+        return a, b
+    if number == 8:
+        raise Refused(number, a)
+    raise Refused(number, b if number in (11, 12, 13, 14) else None)
+
+
+def start(pool):
+    """Makes an empty index, whatever the words were. Refuses 1."""
+    address, length, _held = _words(pool)
+    _unpack(_lg.lg_start(address, length))
+
+
+def grant(pool, number, rank, kind, bounds):
+    """Adds a grant; kind: 0 bars, 1 opens. Refuses 1, 3, 4, 2, 9, 5 and 6, in this order."""
+    fields = _fits(WORD, number) + _fits(BYTE, rank, kind) + _box(bounds)
+    address, length, _held = _words(pool)
+    _unpack(_lg.lg_grant(address, length, *fields))
+
+
+def revoke(pool, number):
+    """Drops the grant of a number. Refuses 1, 3, 9 and 7, in this order."""
+    _fits(WORD, number)
+    address, length, _held = _words(pool)
+    _unpack(_lg.lg_revoke(address, length, number))
+
+
+def list_into(pool, bounds, numbers):
+    """Writes the numbers of the live grants that overlap a box, ascending, from the start of `numbers`, and returns how many;
+    elements past them stay. Refuses 1, 2, 9 and 8, in this order."""
+    fields = _box(bounds)
+    (address, length, _held), (list_address, list_length, _lent) = _apart(_words(pool), _words(numbers))
+    return _unpack(_lg.lg_list(address, length, *fields, list_address, list_length))[0]
+
+
+def decide(pool, staff, door, quarter):
+    """The grant that decides at a point, or None; its kind says whether it opens. Refuses 1 and 9, in this order."""
+    _fits(WORD, staff, door, quarter)
+    out = (ctypes.c_uint16 * 10)()
+    address, length, _held = _words(pool)
+    decided, _ = _unpack(_lg.lg_decide(address, length, staff, door, quarter, ctypes.addressof(out)))
+    if decided == 0:
+        return None
+    return Grant(out[0], out[1], OPENS if decided == 1 else BARS, Bounds(*out[3:9]))
+
+
+def count(pool):
+    """Live grants, and cells that are free. Refuses 1 and 9, in this order."""
+    address, length, _held = _words(pool)
+    return Count(*_unpack(_lg.lg_count(address, length)))
+
+
+def write_into(pool, door_from, door_to, memory):
+    """Writes the grants file of a range of doors and returns its length; bytes beyond it stay. Refuses 1, 2, 9 and 14, in this
+    order."""
+    _fits(WORD, door_from, door_to)
+    (address, length, _held), (bytes_address, bytes_length, _lent) = _apart(_words(pool), _lend(memory, ctypes.c_uint8))
+    return _unpack(_lg.lg_write(address, length, door_from, door_to, bytes_address, bytes_length))[1]
+
+
+def load(pool, file):
+    """Makes the pool what start and then the file's grants make it, whatever the words were. Refuses 1, the file's faults (10; then
+    for each block 12, 11, 13) and 6, in this order."""
+    address, length, _held = _words(pool)
+    file_address, file_length, _file_held = _file(file)
+    _unpack(_lg.lg_load(address, length, file_address, file_length))
+
+
+def match(pool, file):
+    """Holds the pool's grants that touch the file's doors against the file: None where they are equal, or the lowest number at which
+    they differ. Refuses 1, the file's faults and 9, in this order."""
+    address, length, _held = _words(pool)
+    file_address, file_length, _file_held = _file(file)
+    return _unpack(_lg.lg_match(address, length, file_address, file_length))[0] or None
+
+
+def block(file, number):
+    """The verdict on one block of a file, judged alone. Refuses 10, 12 and 11, in this order."""
+    _fits(2**64 - 1, number)
+    address, length, _held = _file(file)
+    _unpack(_lg.lg_block(address, length, number))
+
+
+def block_part(file, number):
+    """The slice of the file that a block's records occupy; an empty one for block 0 and for a block that `block` refuses."""
+    _fits(2**64 - 1, number)
+    address, length, _held = _file(file)
+    part, where = _unpack(_lg.lg_block_part(address, length, number))
+    return slice(where, where + part)
+
+
+class Index:
+    """An index of up to `capacity` grants, 1 to 2048, that owns its pool."""
+
+    def __init__(self, capacity):
+        if not 1 <= capacity <= 2048:
+            raise Refused(1)
+        self.pool = array.array("H", bytes(2 * (3 + 10 * capacity)))
+        start(self.pool)
+
+    def start(self):
+        start(self.pool)
+
+    def grant(self, number, rank, kind, bounds):
+        grant(self.pool, number, rank, kind, bounds)
+
+    def revoke(self, number):
+        revoke(self.pool, number)
+
+    def list(self, bounds):
+        """The numbers of the live grants that overlap a box, ascending."""
+        numbers = array.array("H", bytes(2 * self.count().live))
+        return numbers[: list_into(self.pool, bounds, numbers)].tolist()
+
+    def decide(self, staff, door, quarter):
+        return decide(self.pool, staff, door, quarter)
+
+    def count(self):
+        return count(self.pool)
+
+    def write(self, door_from, door_to):
+        """The grants file of a range of doors."""
+        try:
+            needed = write_into(self.pool, door_from, door_to, bytearray())
+        except Refused as refused:
+            if refused.number != 14:
+                raise
+            needed = refused.value
+        file = bytearray(needed)
+        write_into(self.pool, door_from, door_to, file)
+        return bytes(file)
+
+    def load(self, file):
+        load(self.pool, file)
+
+    def match(self, file):
+        return match(self.pool, file)

@@ -1,0 +1,39 @@
+"""A night at a bank of lockers: head office grants, cuts a file for the bank, the bank loads it and decides by it.
+
+    bindings/python/build && python3 bindings/python/night_shift.py
+"""
+import lg
+
+# Quarter-hours from the operator's base day: ten in the evening to six in the morning.
+NIGHT = (88, 119)
+
+office = lg.Index(2048)
+office.grant(7, 10, lg.OPENS, (100, 199, 1, 40, *NIGHT))
+office.grant(3, 20, lg.BARS, (150, 150, 12, 12, 0, 65535))
+
+# A refusal says why, and leaves the index as it was.
+try:
+    office.revoke(9)
+except lg.Refused as refused:
+    print("number 9 revoked: refused with %d, %s" % (refused.number, refused))
+
+# The file has all grants that touch the bank's doors, whole.
+cut = office.write(1, 20)
+print("a file of %d bytes, its records in %d of them" % (len(cut), len(cut[lg.block_part(cut, 1)])))
+
+bank = lg.Index(64)
+bank.load(cut)
+print("the bank's grants:", bank.list((0, 65535, 1, 20, *NIGHT)))
+for staff in (120, 150, 200):
+    grant = bank.decide(staff, 12, 90)
+    if grant is None:
+        print("no grant for %d at door 12" % staff)
+    elif grant.kind == lg.OPENS:
+        print("door 12 opens for %d by grant %d" % (staff, grant.number))
+    else:
+        print("door 12 is barred for %d by grant %d" % (staff, grant.number))
+
+# Later, head office holds its grants against the bank's file.
+office.revoke(3)
+number = office.match(cut)
+print("the bank is up to date" if number is None else "the bank differs first at grant %d" % number)

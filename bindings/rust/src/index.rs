@@ -1,0 +1,80 @@
+//! An index that owns its pool.
+
+use crate::answer::{Count, Decision, Fault, Match};
+use crate::grant::{Bounds, Grant, Span};
+use crate::pool;
+
+/// An index of up to `capacity` grants.
+#[derive(Clone, Debug, PartialEq, Eq)]
+pub struct Index {
+    words: Vec<u16>,
+}
+
+impl Index {
+    /// An empty index. Refuses 1 for a capacity that is not 1 to 2048.
+    pub fn new(capacity: u16) -> Result<Index, Fault> {
+        let mut index = Index { words: vec![0; pool::words(capacity)] };
+        index.start()?;
+        Ok(index)
+    }
+
+    /// Drops every grant.
+    pub fn start(&mut self) -> Result<(), Fault> {
+        pool::start(&mut self.words)
+    }
+
+    /// Adds a grant. Refuses 3, 2, 5 and 6, in this order.
+    pub fn grant(&mut self, grant: &Grant) -> Result<(), Fault> {
+        pool::grant(&mut self.words, grant.number, grant.rank, grant.kind.number(), grant.bounds)
+    }
+
+    /// Drops the grant of a number. Refuses 3 and 7, in this order.
+    pub fn revoke(&mut self, number: u16) -> Result<(), Fault> {
+        pool::revoke(&mut self.words, number)
+    }
+
+    /// The numbers of the live grants that overlap a box, ascending. Refuses 2.
+    pub fn list(&self, bounds: Bounds) -> Result<Vec<u16>, Fault> {
+        let mut numbers = vec![0; self.count()?.live];
+        let found = pool::list(&self.words, bounds, &mut numbers)?;
+        numbers.truncate(found);
+        Ok(numbers)
+    }
+
+    /// What decides at a point.
+    pub fn decide(&self, staff: u16, door: u16, quarter: u16) -> Result<Decision, Fault> {
+        pool::decide(&self.words, staff, door, quarter)
+    }
+
+    /// How many grants are live and how many cells are free.
+    pub fn count(&self) -> Result<Count, Fault> {
+        pool::count(&self.words)
+    }
+
+    /// The grants file of a span of doors. Refuses 2.
+    pub fn write(&self, doors: Span) -> Result<Vec<u8>, Fault> {
+        let needed = match pool::write(&self.words, doors, &mut []) {
+            Err(Fault::BytesTooFew { needed }) => needed,
+            Err(fault) => return Err(fault),
+            Ok(length) => length,
+        };
+        let mut file = vec![0; needed];
+        pool::write(&self.words, doors, &mut file)?;
+        Ok(file)
+    }
+
+    /// Becomes what a file says, whatever it held. Refuses the file's faults and 6, in this order.
+    pub fn load(&mut self, file: &[u8]) -> Result<(), Fault> {
+        pool::load(&mut self.words, file)
+    }
+
+    /// Holds the grants that touch the file's doors against the file. Refuses the file's faults.
+    pub fn match_file(&self, file: &[u8]) -> Result<Match, Fault> {
+        pool::match_file(&self.words, file)
+    }
+
+    /// The pool's words, to be kept or sent as they are.
+    pub fn words(&self) -> &[u16] {
+        &self.words
+    }
+}

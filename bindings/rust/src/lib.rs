@@ -1,0 +1,17 @@
+//! The grant index for luggage lockers: safe functions over its C interface (include/lg.h).
+//!
+//! `Index` owns its memory; the module `pool` has the same calls over words that the caller holds, `file` reads one block of a
+//! grants file. Nothing is required of a caller: each call finds the fault itself and then leaves all memory as it was.
+//! examples/night_shift.rs is a page that shows it.
+
+mod answer;
+mod ffi;
+mod grant;
+mod index;
+
+pub mod file;
+pub mod pool;
+
+pub use answer::{Count, Decision, Fault, Match};
+pub use grant::{Bounds, Grant, Kind, Span};
+pub use index::Index;
