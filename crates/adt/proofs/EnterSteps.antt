@@ -1,6 +1,7 @@
 -- The search's two steps, case by case: what `enter` gives by its tests, and how a visit is made of three steps.
 --   enter-blank, enter-deep, enter-apart, enter-above, enter-visits    the tests of `enter`, in their order
 --   enter-broken                                                       a broken walk goes no further
+--   stands-as                                                          what the memory stands for, once the answer is known
 --   son-meets                                                          a son's region meets the range if it does on the axis that was halved
 --   son-blank, son-deep, son-before, son-behind, son-past, son-visited what the memory stands for after each test of `enter`
 --   visit-cut, visit-left-cut, visit-whole, visit-in                   and after each step of `visit`
@@ -23,7 +24,7 @@ use Rattle.adt.specs.Node.{linkPlace}
 use Rattle.adt.specs.Search.{Spot, Search, broken, going, meet, visitBy, enter}
 use Rattle.adt.specs.SearchMemory.{searchIn, Counted, Stands}
 
-stands-as : {c : ℕ} {r b : Bool} {h t : List ℕ} {s : Search} → Stands c r h t s → r ≡ b → searchIn b h t ≡ s
+pub stands-as : {c : ℕ} {r b : Bool} {h t : List ℕ} {s : Search} → Stands c r h t s → r ≡ b → searchIn b h t ≡ s
 stands-as {h = h} {t = t} d e = ap (λ (x : Bool). searchIn x h t) (sym e) ∙ d .state
 
 module _ (w : List ℕ) (c : ℕ) (q : Region) where

@@ -1,10 +1,12 @@
 -- `matching::match_file` meets its contract, test by test. Assumes nothing.
-use mathlib.Core.Path.{refl, _∙_}
+use mathlib.Core.Path.{refl, sym, subst, _∙_}
 use native.Mathlib.Omega.{arith}
 use Rattle.grants_file.proofs.GrantSteps.{accepted-whole}
 use Rattle.index.proofs.HitsLaws.{found-hits}
 use Rattle.index.proofs.RefusalSteps.{pool-taken}
 use Rattle.file_calls.proofs.MatchSteps.{file-taken, match-bad, match-file, match-broken, match-done}
+use Rattle.geometry.specs.SearchRange.{OneSided}
+use Rattle.geometry.proofs.SearchRangeLaws.{doors-one-sided}
 use borrow.Author.Needs.{needs}
 use Rattle.file_calls.proofs.matching.match_file.Statement.{statement}
 use Rattle.file_calls.proofs.matching.match_file.Tie as tie
@@ -55,7 +57,7 @@ find-hits-requires c κs =
     let taken = c .before .before .before .before .before in
     let some = taken .before .before .before in
     let t = pool-taken _ (some .before .capacity .ensures) (some .if1 .left) in
-    (t .few, t .long, refl)
+    (t .few, t .long, refl, subst OneSided (sym (c .before .before .range-of-doors .ensures)) (doors-one-sided _))
 
 enum-known-found : tie.Need-enum-known-found
 enum-known-found c = search needs

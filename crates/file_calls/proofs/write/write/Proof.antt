@@ -1,10 +1,12 @@
 -- `write::write` meets its contract, test by test. Assumes nothing.
 use Prim.Native.Nat.{ℕ, _*_}
-use mathlib.Core.Path.{refl, ap}
+use mathlib.Core.Path.{refl, sym, ap, subst}
 use native.Mathlib.Omega.{arith}
 use Rattle.index.proofs.RefusalSteps.{pool-taken}
 use Rattle.index.proofs.HitsLaws.{found-hits}
 use Rattle.file_calls.proofs.WriteSteps.{write-bad, write-reversed, write-broken, write-short, write-done}
+use Rattle.geometry.specs.SearchRange.{OneSided}
+use Rattle.geometry.proofs.SearchRangeLaws.{doors-one-sided}
 use borrow.Author.Needs.{needs}
 use Rattle.file_calls.proofs.write.write.Statement.{statement}
 use Rattle.file_calls.proofs.write.write.Tie as tie
@@ -30,7 +32,7 @@ find-hits-requires : tie.Need-find-hits-requires
 find-hits-requires c κs =
     let some = c .before .before .before .before in
     let t = pool-taken _ (some .before .capacity .ensures) (some .if1 .left) in
-    (t .few, t .long, refl)
+    (t .few, t .long, refl, subst OneSided (sym (c .before .before .range-of-doors .ensures)) (doors-one-sided _))
 
 enum-known-found : tie.Need-enum-known-found
 enum-known-found c = search needs

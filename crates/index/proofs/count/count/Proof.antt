@@ -1,7 +1,9 @@
 -- `count::count` meets its contract, test by test. Assumes nothing.
 use Rattle.index.proofs.RefusalSteps.{pool-taken}
 use Rattle.index.proofs.CountSteps.{count-bad, count-broken, count-few, count-done}
-use mathlib.Core.Path.{refl}
+use mathlib.Core.Path.{refl, sym, subst}
+use Rattle.geometry.specs.SearchRange.{OneSided}
+use Rattle.geometry.proofs.SearchRangeLaws.{all-one-sided}
 use borrow.Author.Needs.{needs}
 use Rattle.index.proofs.count.count.Statement.{statement}
 use Rattle.index.proofs.count.count.Tie as tie
@@ -18,7 +20,7 @@ root-region-requires c κs = search needs
 find-hits-requires : tie.Need-find-hits-requires
 find-hits-requires c κs =
     let t = pool-taken _ (c .before .before .before .before .capacity .ensures) (c .before .before .before .if1 .left) in
-    (t .few, t .long, refl)
+    (t .few, t .long, refl, subst OneSided (sym (c .before .before .root-region .ensures)) all-one-sided)
 
 enum-known-live : tie.Need-enum-known-live
 enum-known-live c = search needs

@@ -2,7 +2,9 @@
 use Rattle.index.proofs.RefusalSteps.{pool-taken}
 use Rattle.index.proofs.HitsLaws.{found-hits}
 use Rattle.index.proofs.DecideSteps.{decide-bad, decide-broken, decide-done}
-use mathlib.Core.Path.{refl}
+use mathlib.Core.Path.{refl, sym, subst}
+use Rattle.geometry.specs.SearchRange.{OneSided}
+use Rattle.geometry.proofs.SearchRangeLaws.{box-one-sided}
 use borrow.Author.Needs.{needs}
 use Rattle.index.proofs.decide.decide.Statement.{statement}
 use Rattle.index.proofs.decide.decide.Tie as tie
@@ -25,7 +27,7 @@ find-hits-requires : tie.Need-find-hits-requires
 find-hits-requires c κs =
     let tested = c .before .before .before .before in
     let t = pool-taken _ (tested .before .capacity .ensures) (tested .if1 .left) in
-    (t .few, t .long, refl)
+    (t .few, t .long, refl, subst OneSided (sym (c .before .before .range-of-box .ensures)) (box-one-sided _))
 
 enum-known-found : tie.Need-enum-known-found
 enum-known-found c = search needs

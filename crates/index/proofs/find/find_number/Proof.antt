@@ -1,6 +1,9 @@
 -- `find::find_number` meets its contract: what the memory of the search says. Assumes nothing.
 use Rattle.index.proofs.FindLaws.{number-broken, number-absent, number-at}
 use borrow.Author.Tests.{not-true, not-false}
+use mathlib.Core.Path.{refl, sym, subst}
+use Rattle.geometry.specs.SearchRange.{OneSided}
+use Rattle.geometry.proofs.SearchRangeLaws.{number-one-sided}
 use borrow.Author.Needs.{needs}
 use Rattle.index.proofs.find.find_number.Statement.{statement}
 use Rattle.index.proofs.find.find_number.Tie as tie
@@ -9,7 +12,12 @@ range-of-number-requires : tie.Need-range-of-number-requires
 range-of-number-requires c κs = search needs
 
 search-requires : tie.Need-search-requires
-search-requires c κs = search needs
+search-requires c κs =
+    let ranged = c .before .before .before in
+    let start = ranged .before .before in (
+      record { few = start .pre .0; long = start .pre .1; hit-room = refl; unused = refl },
+      subst OneSided (sym (ranged .range-of-number .ensures)) (number-one-sided _),
+    )
 
 returns : tie.Need-returns
 returns c = number-broken (c .before .before .before .before .before .before .before .args .pool .now) _ _ _ (c .before .before .before .before .before .range-of-number .ensures) (c .before .before .before .before .before .before .before .pre .0) (c .before .before .before .before .before .before .before .pre .1) (c .before .search .ensures) (not-true _ (c .if1 .taken))

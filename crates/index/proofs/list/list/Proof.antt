@@ -2,8 +2,10 @@
 use Rattle.index.proofs.RefusalSteps.{pool-taken}
 use Rattle.index.proofs.HitsLaws.{found-hits, cells-part}
 use Rattle.index.proofs.ListSteps.{list-bad, list-reversed, list-broken, list-short, list-done}
-use mathlib.Core.Path.{refl, sym}
+use mathlib.Core.Path.{refl, sym, subst}
 use lib.Seq.{length-take-le}
+use Rattle.geometry.specs.SearchRange.{OneSided}
+use Rattle.geometry.proofs.SearchRangeLaws.{box-one-sided}
 use borrow.Author.Needs.{needs}
 use Rattle.index.proofs.list.list.Statement.{statement}
 use Rattle.index.proofs.list.list.Tie as tie
@@ -32,7 +34,7 @@ find-hits-requires : tie.Need-find-hits-requires
 find-hits-requires c κs =
     let tested = c .before .before .before .before in
     let t = pool-taken _ (tested .before .before .capacity .ensures) (tested .before .if1 .left) in
-    (t .few, t .long, refl)
+    (t .few, t .long, refl, subst OneSided (sym (c .before .before .range-of-box .ensures)) (box-one-sided _))
 
 enum-known-found : tie.Need-enum-known-found
 enum-known-found c = search needs
