@@ -5,19 +5,20 @@
 -- Assumes nothing.
 use Prim.Native.Nat.{ℕ, _<_}
 use Prim.Native.Char.{code}
-use mathlib.Core.Path.{_≡_, refl, subst, sym}
+use mathlib.Core.Path.{_≡_, refl}
 use mathlib.Core.Bool.{Bool, true, false, cond}
-use mathlib.Core.List.{List, [], _∷_, List·Memᴰ, List·Memᴰ·head, List·Memᴰ·tail}
+use mathlib.Core.List.{List, [], _∷_, List·Memᴰ·head, List·Memᴰ·tail, List·Memᴰ·not-nil}
 use mathlib.Core.Option.{Option, none, some}
 use lib.Dec.{eqb, ltb, lit<}
 use lib.ListN.{length, getD}
 use Rattle.model.specs.Call.{Call}
-use Rattle.model.specs.Values.{CallFits}
+use Rattle.model.specs.Values.{wordValues, Below, BoxFits, CallFits}
 use Rattle.slip_text.specs.declared.Slip.{Slip}
 use Rattle.slip_text.specs.declared.Slip.the-variants as slip
 use Rattle.slip_text.specs.declared.Width.the-variants.{Word}
+use Rattle.slip_text.specs.Width.{valuesOf}
 use Rattle.slip_text.specs.Fields.{fields}
-use Rattle.slip_text.specs.Slip.{numbers, grantWidths, revokeWidths, boxWidths, decideWidths, grantOf, revokeOf, listOf, decideOf, countOf, slipBy, letterSlip, fieldsSlip, parseLine}
+use Rattle.slip_text.specs.Slip.{numbers, grantWidths, revokeWidths, boxWidths, decideWidths, boxAt, grantOf, revokeOf, listOf, decideOf, countOf, slipBy, letterSlip, fieldsSlip, parseLine}
 use Rattle.slip_text.proofs.SlipLaws.{numbers-fit}
 use Rattle.slip_session.specs.Longest.{longest, slipOf}
 use Rattle.slip_session.specs.SlipCall.{callOf}
@@ -25,6 +26,13 @@ use Rattle.slip_session.specs.SlipCall.{callOf}
 abbrev pub Fits : Option Call → Type 0
 Fits none = Unit {0}
 Fits (some call) = CallFits call
+
+below-none : Below wordValues []
+below-none x m = absurd (List·Memᴰ·not-nil m)
+
+below-more : {x : ℕ} {xs : List ℕ} → x < wordValues → Below wordValues xs → Below wordValues (x ∷ xs)
+below-more h rest y (List·Memᴰ·head p) = rw p h
+below-more h rest y (List·Memᴰ·tail m) = rest y m
 
 module _ (lent : List ℕ) where
   abbrev SlipFits : Slip → Type 0
@@ -35,54 +43,38 @@ module _ (lent : List ℕ) where
   fits-either true s t f g = f
   fits-either false s t f g = g
 
+  -- of the call that values make, if any values make one that fits
+  fits-by : (call : List ℕ → Slip) (o : Option (List ℕ)) → ((vs : List ℕ) → SlipFits (call vs)) → SlipFits (slipBy call o)
+  fits-by call none each = tt
+  fits-by call (some vs) each = each vs
+
   module _ (fs : List (List ℕ)) where
     grant-fits : SlipFits (slipBy grantOf (numbers grantWidths fs))
     grant-fits = go (numbers grantWidths fs) refl
       where
         go : (o : Option (List ℕ)) → numbers grantWidths fs ≡ o → SlipFits (slipBy grantOf o)
         go none e = tt
-        go (some vs) e =
-            record {
-              number = numbers-fit grantWidths fs vs 0 Word e (lit< tt);
-              rank = numbers-fit grantWidths fs vs 1 Word e (lit< tt);
-              bounds = each;
-            }
+        go (some vs) e = record { number = fit 0 (lit< tt); rank = fit 1 (lit< tt); bounds = bounds }
           where
-            each : (x : ℕ)
-                → List·Memᴰ x (getD vs 3 0 ∷ getD vs 4 0 ∷ getD vs 5 0 ∷ getD vs 6 0 ∷ getD vs 7 0 ∷ getD vs 8 0 ∷ [])
-                → x < 65536
-            each x (List·Memᴰ·head p) = rw p (numbers-fit grantWidths fs vs 3 Word e (lit< tt))
-            each x (List·Memᴰ·tail (List·Memᴰ·head p)) = rw p (numbers-fit grantWidths fs vs 4 Word e (lit< tt))
-            each x (List·Memᴰ·tail (List·Memᴰ·tail (List·Memᴰ·head p))) = rw p (numbers-fit grantWidths fs vs 5 Word e (lit< tt))
-            each x (List·Memᴰ·tail (List·Memᴰ·tail (List·Memᴰ·tail (List·Memᴰ·head p)))) = rw p (numbers-fit grantWidths fs vs 6 Word e (lit< tt))
-            each x (List·Memᴰ·tail (List·Memᴰ·tail (List·Memᴰ·tail (List·Memᴰ·tail (List·Memᴰ·head p))))) = rw p (numbers-fit grantWidths fs vs 7 Word e (lit< tt))
-            each x (List·Memᴰ·tail (List·Memᴰ·tail (List·Memᴰ·tail (List·Memᴰ·tail (List·Memᴰ·tail (List·Memᴰ·head p)))))) = rw p (numbers-fit grantWidths fs vs 8 Word e (lit< tt))
+            fit : (i : ℕ) → i < length grantWidths → getD vs i 0 < valuesOf (getD grantWidths i Word)
+            fit i h = numbers-fit grantWidths fs vs i Word e h
 
-    -- of the other calls nothing is asked
-    revoke-fits : (o : Option (List ℕ)) → SlipFits (slipBy revokeOf o)
-    revoke-fits none = tt
-    revoke-fits (some vs) = tt
+            bounds : BoxFits (boxAt 3 vs)
+            bounds =
+                below-more (fit 3 (lit< tt))
+                (below-more (fit 4 (lit< tt))
+                (below-more (fit 5 (lit< tt))
+                (below-more (fit 6 (lit< tt)) (below-more (fit 7 (lit< tt)) (below-more (fit 8 (lit< tt)) below-none)))))
 
-    list-fits : (o : Option (List ℕ)) → SlipFits (slipBy listOf o)
-    list-fits none = tt
-    list-fits (some vs) = tt
-
-    decide-fits : (o : Option (List ℕ)) → SlipFits (slipBy decideOf o)
-    decide-fits none = tt
-    decide-fits (some vs) = tt
-
-    count-fits : (o : Option (List ℕ)) → SlipFits (slipBy countOf o)
-    count-fits none = tt
-    count-fits (some vs) = tt
-
+    -- of the calls but grant nothing is asked
     letter-fits : (b : ℕ) → SlipFits (letterSlip b fs)
     unfolding letterSlip
     letter-fits b =
         fits-either (eqb b (code "G")) _ _ grant-fits
-        (fits-either (eqb b (code "R")) _ _ (revoke-fits (numbers revokeWidths fs))
-        (fits-either (eqb b (code "L")) _ _ (list-fits (numbers boxWidths fs))
-        (fits-either (eqb b (code "D")) _ _ (decide-fits (numbers decideWidths fs))
-        (fits-either (eqb b (code "C")) _ slip.Bad (count-fits (numbers [] fs)) tt))))
+        (fits-either (eqb b (code "R")) _ _ (fits-by revokeOf (numbers revokeWidths fs) (λ vs. tt))
+        (fits-either (eqb b (code "L")) _ _ (fits-by listOf (numbers boxWidths fs) (λ vs. tt))
+        (fits-either (eqb b (code "D")) _ _ (fits-by decideOf (numbers decideWidths fs) (λ vs. tt))
+        (fits-either (eqb b (code "C")) _ slip.Bad (fits-by countOf (numbers [] fs) (λ vs. tt)) tt))))
 
   fields-fit : (fs : List (List ℕ)) → SlipFits (fieldsSlip fs)
   unfolding fieldsSlip

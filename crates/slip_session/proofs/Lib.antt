@@ -5,3 +5,4 @@ pub mod AnswerTextLaws
 pub mod LineLaws
 pub mod SessionLaws
 pub mod SlipsPrint
+pub mod MarkedSession

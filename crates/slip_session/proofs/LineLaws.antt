@@ -4,7 +4,7 @@
 -- Assumes nothing.
 use Prim.Native.Nat.{ℕ, _<_, _≤_}
 use mathlib.Core.Path.{_≡_, refl, sym, ap, _∙_}
-use mathlib.Core.List.{List, [], _∷_}
+use mathlib.Core.List.{List, []}
 use lib.ListN.{length, take}
 use lib.Seq.{take-take}
 use borrow.Author.Tests.{lt-ltb, le-ltb}
@@ -17,12 +17,11 @@ use Rattle.model.specs.declared.Counted.{Counted}
 use Rattle.model.specs.Limits.{maxGrants}
 use Rattle.model.specs.Call.{Call, request, grant, revoke, list, decide, count}
 use Rattle.model.specs.Answer.{Answer, outcomeAnswer, listedAnswer, decisionAnswer, countedAnswer}
-use Rattle.model.specs.Refusal.{refusing}
 use Rattle.model.proofs.JudgedLaws.{refusing-keeps-state}
 use Rattle.slip_text.specs.declared.Slip.{Slip}
 use Rattle.slip_text.specs.declared.Slip.the-variants as slip
 use Rattle.slip_text.specs.Slip.{parseLine}
-use Rattle.slip_text.specs.Text.{outcomeText, listText, listedText, decisionText, countedText, badText}
+use Rattle.slip_text.specs.Text.{outcomeText, listedText, decisionText, countedText, badText}
 use Rattle.index.specs.Calls.{grantCall, revokeCall, listCall, decideCall, countCall, wordsStep}
 use Rattle.index.specs.Contract.{Leaves, Lends}
 use Rattle.slip_session.specs.Longest.{longest, slipOf}

@@ -1,5 +1,6 @@
 -- The line that is printed for an answer in document 01's numbers (document 01, "Marked cases": list: how many, then numbers; opens or
 -- barred: the grant's number; refused: the fault; count: live, free).
+--   decidedText how number           of what decide answers
 --   acceptedText call values lent    of an accepted call, by its values (model/specs/Answer) and the lent list after it
 --   answerText call answer lent      of any answer; of a refusal only the fault's number is printed
 -- The words and numerals are slip_text/specs/Text's. Assumes nothing: these are definitions.

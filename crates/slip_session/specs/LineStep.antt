@@ -1,9 +1,11 @@
 -- What lines do, over any state and any calls on it (document 01, "Marked cases": the slip program prints one line per slip; "The plain
 -- book": each call gets what the one before left).
---   LineStep                      the state, the lent list and the text after a line
---   lineStep step s lent line     of one line's bytes, from the state s and the lent list as they are
+--   LineStep                         the state, the lent list and the text after a line
+--   lentAfter call before given      the lent list after a call
+--   answered call lent r             the line's step where its call gave r
+--   lineStep step s lent line        of one line's bytes, from the state s and the lent list as they are
 --   sessionText step s lent lines    what a list of lines prints, each line's text after the one before
--- With index's wordsStep these are the slip program; with the model's bookStep they are the plain book. Assumes nothing: these are definitions.
+-- With index's wordsStep these are the slip program, with the model's bookStep the plain book. Assumes nothing: these are definitions.
 use Prim.Native.Nat.{ℕ}
 use mathlib.Core.List.{List, [], _∷_, _++_}
 use mathlib.Core.Option.{Option, none, some}
