@@ -1,2 +1,8 @@
--- Laws of the slip program's lines, for the crates above.
-pub mod AnsweredLaws
+-- Laws of the slip program's lines, and the proof of its claim.
+pub mod ListedLaws
+pub mod FitLaws
+pub mod AnswerTextLaws
+pub mod LineLaws
+pub mod SessionLaws
+pub mod SlipsPrint
+pub mod MarkedSession

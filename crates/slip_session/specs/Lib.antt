@@ -1,3 +1,7 @@
--- What a line of the slip program does.
+-- What a line of the slip program does, and the claim about lists of lines.
 pub mod Longest
-pub mod Answered
+pub mod SlipCall
+pub mod AnswerText
+pub mod LineStep
+pub mod Contract
+pub mod Claim

@@ -1,8 +1,9 @@
 // One line of the slip program after another, on one pool (document 01, "Marked cases").
 ghost use lib.ListN.{take};
-ghost use Rattle.slip_text.specs.Put.{Put, Counts};
-ghost use Rattle.slip_session.specs.Longest.{slipOf};
-ghost use Rattle.slip_session.specs.Answered.{Answered};
+ghost use Rattle.slip_text.specs.Put.{Counts};
+ghost use Rattle.index.specs.Calls.{wordsStep};
+ghost use Rattle.slip_session.specs.LineStep.{lineStep};
+ghost use Rattle.slip_session.specs.Contract.{Prints};
 use index::count::count;
 use index::decide::decide;
 use index::grant::grant;
@@ -23,7 +24,7 @@ pub const LONGEST: usize = 4096;
 
 // Makes the call that the line stands for, and prints its answer: how many bytes of `out` it takes.
 pub fn answer(pool: &mut [u16], lent: &mut [u16], line: &[u8], out: &mut [u8; LINE_BYTES]) -> usize
-    ensures { λ r. ⌜ Answered (now (pool .entry)) (now (lent .entry)) (slipOf (now (line .entry))) (now (pool .exit)) (now (lent .exit)) (take r (now (out .exit))) ⌝ }
+    ensures { λ r. ⌜ Prints (now (pool .exit)) (now (lent .exit)) (take r (now (out .exit))) (lineStep wordsStep (now (pool .entry)) (now (lent .entry)) (now (line .entry))) ⌝ }
     ensures { λ r. ⌜ Counts r (now (out .exit)) ⌝ }
 {
     if LONGEST < line.len() {

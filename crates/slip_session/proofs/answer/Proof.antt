@@ -1,5 +1,5 @@
 -- `answer` meets its contract: the call that the line stands for, and its answer as text. Assumes nothing.
-use Rattle.slip_session.proofs.AnsweredLaws.{line-long, line-slip, answered-bad, answered-grant, answered-revoke, answered-list, answered-decide, answered-count}
+use Rattle.slip_session.proofs.LineLaws.{line-long, line-slip, prints-bad, prints-grant, prints-revoke, prints-list, prints-decide, prints-count}
 use borrow.Author.Needs.{needs}
 use Rattle.slip_session.proofs.answer.Statement.{statement}
 use Rattle.slip_session.proofs.answer.Tie as tie
@@ -8,7 +8,7 @@ print-bad-requires : tie.Need-print-bad-requires
 print-bad-requires c κs = search needs
 
 returns : tie.Need-returns
-returns c = (answered-bad (c .before .before .before .before .before .before .args .pool .now) (c .before .before .before .before .before .before .args .lent .now) (line-long (c .before .before .before .before .before .before .args .line .now) (c .before .before .if1 .taken)) (c .print-bad .ensures .0), c .print-bad .ensures .1)
+returns c = (prints-bad (c .before .before .before .before .before .before .args .pool .now) (c .before .before .before .before .before .before .args .lent .now) (c .before .before .before .before .before .before .args .line .now) (line-long (c .before .before .before .before .before .before .args .line .now) (c .before .before .if1 .taken)) (c .print-bad .ensures .0), c .print-bad .ensures .1)
 
 parse-requires : tie.Need-parse-requires
 parse-requires c κs = search needs
@@ -68,13 +68,13 @@ same-length : tie.Need-same-length
 same-length c = search needs
 
 returns-2 : tie.Need-returns-2
-returns-2 c = (answered-grant (c .before .before .before .before .before .before .before .before .before .before .before .before .before .before .args .pool .now) (c .before .before .before .before .before .before .before .before .before .before .before .before .before .before .args .lent .now) (line-slip (c .before .before .before .before .before .before .before .before .before .before .before .before .before .before .args .line .now) (c .before .before .before .before .before .before .before .before .before .before .if1 .left) (c .before .before .before .before .before .before .before .before .before .parse .ensures) (c .before .before .before .before .before .before .before .slip .given .1)) (c .before .before .before .before .grant .result) (c .before .before .before .before .grant .ensures) (c .print-outcome .ensures .0), c .print-outcome .ensures .1)
+returns-2 c = (prints-grant (c .before .before .before .before .before .before .before .before .before .before .before .before .before .before .args .pool .now) (c .before .before .before .before .before .before .before .before .before .before .before .before .before .before .args .lent .now) (c .before .before .before .before .before .before .before .before .before .before .before .before .before .before .args .line .now) (line-slip (c .before .before .before .before .before .before .before .before .before .before .before .before .before .before .args .line .now) (c .before .before .before .before .before .before .before .before .before .before .if1 .left) (c .before .before .before .before .before .before .before .before .before .parse .ensures) (c .before .before .before .before .before .before .before .slip .given .1)) (c .before .before .before .before .grant .result) (c .before .before .before .before .grant .ensures) (c .print-outcome .ensures .0), c .print-outcome .ensures .1)
 
 same-length-2 : tie.Need-same-length-2
 same-length-2 c = search needs
 
 returns-3 : tie.Need-returns-3
-returns-3 c = (answered-revoke (c .before .before .before .before .before .before .before .before .before .before .before .before .before .before .args .pool .now) (c .before .before .before .before .before .before .before .before .before .before .before .before .before .before .args .lent .now) (line-slip (c .before .before .before .before .before .before .before .before .before .before .before .before .before .before .args .line .now) (c .before .before .before .before .before .before .before .before .before .before .if1 .left) (c .before .before .before .before .before .before .before .before .before .parse .ensures) (c .before .before .before .before .before .before .before .slip2 .given .1)) (c .before .before .before .before .revoke .result) (c .before .before .before .before .revoke .ensures) (c .print-outcome2 .ensures .0), c .print-outcome2 .ensures .1)
+returns-3 c = (prints-revoke (c .before .before .before .before .before .before .before .before .before .before .before .before .before .before .args .pool .now) (c .before .before .before .before .before .before .before .before .before .before .before .before .before .before .args .lent .now) (c .before .before .before .before .before .before .before .before .before .before .before .before .before .before .args .line .now) (line-slip (c .before .before .before .before .before .before .before .before .before .before .before .before .before .before .args .line .now) (c .before .before .before .before .before .before .before .before .before .before .if1 .left) (c .before .before .before .before .before .before .before .before .before .parse .ensures) (c .before .before .before .before .before .before .before .slip2 .given .1)) (c .before .before .before .before .revoke .result) (c .before .before .before .before .revoke .ensures) (c .print-outcome2 .ensures .0), c .print-outcome2 .ensures .1)
 
 same-length-3 : tie.Need-same-length-3
 same-length-3 c = search needs
@@ -83,22 +83,22 @@ same-length-4 : tie.Need-same-length-4
 same-length-4 c = search needs
 
 returns-4 : tie.Need-returns-4
-returns-4 c = (answered-list (c .before .before .before .before .before .before .before .before .before .before .before .before .before .before .before .before .args .pool .now) (c .before .before .before .before .before .before .before .before .before .before .before .before .before .before .before .before .args .lent .now) (line-slip (c .before .before .before .before .before .before .before .before .before .before .before .before .before .before .before .before .args .line .now) (c .before .before .before .before .before .before .before .before .before .before .before .before .if1 .left) (c .before .before .before .before .before .before .before .before .before .before .before .parse .ensures) (c .before .before .before .before .before .before .before .before .before .slip3 .given .1)) (c .before .before .before .before .before .list .result) (c .before .before .before .before .before .list .ensures) (c .print-listed .ensures .0), c .print-listed .ensures .1)
+returns-4 c = (prints-list (c .before .before .before .before .before .before .before .before .before .before .before .before .before .before .before .before .args .pool .now) (c .before .before .before .before .before .before .before .before .before .before .before .before .before .before .before .before .args .lent .now) (c .before .before .before .before .before .before .before .before .before .before .before .before .before .before .before .before .args .line .now) (line-slip (c .before .before .before .before .before .before .before .before .before .before .before .before .before .before .before .before .args .line .now) (c .before .before .before .before .before .before .before .before .before .before .before .before .if1 .left) (c .before .before .before .before .before .before .before .before .before .before .before .parse .ensures) (c .before .before .before .before .before .before .before .before .before .slip3 .given .1)) (c .before .before .before .before .before .list .result) (c .before .before .before .before .before .list .ensures) (c .print-listed .ensures .0), c .print-listed .ensures .1)
 
 same-length-5 : tie.Need-same-length-5
 same-length-5 c = search needs
 
 returns-5 : tie.Need-returns-5
-returns-5 c = (answered-decide (c .before .before .before .before .before .before .before .before .before .before .before .before .args .pool .now) (c .before .before .before .before .before .before .before .before .before .before .before .before .args .lent .now) (line-slip (c .before .before .before .before .before .before .before .before .before .before .before .before .args .line .now) (c .before .before .before .before .before .before .before .before .if1 .left) (c .before .before .before .before .before .before .before .parse .ensures) (c .before .before .before .before .before .slip4 .given .1)) (c .before .before .decide .result) (c .before .before .decide .ensures) (c .print-decision .ensures .0), c .print-decision .ensures .1)
+returns-5 c = (prints-decide (c .before .before .before .before .before .before .before .before .before .before .before .before .args .pool .now) (c .before .before .before .before .before .before .before .before .before .before .before .before .args .lent .now) (c .before .before .before .before .before .before .before .before .before .before .before .before .args .line .now) (line-slip (c .before .before .before .before .before .before .before .before .before .before .before .before .args .line .now) (c .before .before .before .before .before .before .before .before .if1 .left) (c .before .before .before .before .before .before .before .parse .ensures) (c .before .before .before .before .before .slip4 .given .1)) (c .before .before .decide .result) (c .before .before .decide .ensures) (c .print-decision .ensures .0), c .print-decision .ensures .1)
 
 same-length-6 : tie.Need-same-length-6
 same-length-6 c = search needs
 
 returns-6 : tie.Need-returns-6
-returns-6 c = (answered-count (c .before .before .before .before .before .before .before .before .before .before .before .args .pool .now) (c .before .before .before .before .before .before .before .before .before .before .before .args .lent .now) (line-slip (c .before .before .before .before .before .before .before .before .before .before .before .args .line .now) (c .before .before .before .before .before .before .before .if1 .left) (c .before .before .before .before .before .before .parse .ensures) (c .before .before .before .before .enum-told .given .1)) (c .before .before .count .result) (c .before .before .count .ensures) (c .print-counted .ensures .0), c .print-counted .ensures .1)
+returns-6 c = (prints-count (c .before .before .before .before .before .before .before .before .before .before .before .args .pool .now) (c .before .before .before .before .before .before .before .before .before .before .before .args .lent .now) (c .before .before .before .before .before .before .before .before .before .before .before .args .line .now) (line-slip (c .before .before .before .before .before .before .before .before .before .before .before .args .line .now) (c .before .before .before .before .before .before .before .if1 .left) (c .before .before .before .before .before .before .parse .ensures) (c .before .before .before .before .enum-told .given .1)) (c .before .before .count .result) (c .before .before .count .ensures) (c .print-counted .ensures .0), c .print-counted .ensures .1)
 
 returns-7 : tie.Need-returns-7
-returns-7 c = (answered-bad (c .before .before .before .before .before .before .before .before .before .args .pool .now) (c .before .before .before .before .before .before .before .before .before .args .lent .now) (line-slip (c .before .before .before .before .before .before .before .before .before .args .line .now) (c .before .before .before .before .before .if1 .left) (c .before .before .before .before .parse .ensures) (c .before .before .enum-told2 .given .1)) (c .print-bad2 .ensures .0), c .print-bad2 .ensures .1)
+returns-7 c = (prints-bad (c .before .before .before .before .before .before .before .before .before .args .pool .now) (c .before .before .before .before .before .before .before .before .before .args .lent .now) (c .before .before .before .before .before .before .before .before .before .args .line .now) (line-slip (c .before .before .before .before .before .before .before .before .before .args .line .now) (c .before .before .before .before .before .if1 .left) (c .before .before .before .before .parse .ensures) (c .before .before .enum-told2 .given .1)) (c .print-bad2 .ensures .0), c .print-bad2 .ensures .1)
 
 pub answer-spec : {M : Type 1} → statement M
 answer-spec =
