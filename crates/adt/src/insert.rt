@@ -3,16 +3,14 @@ ghost use mathlib.Core.Path.{_≡_};
 ghost use Prim.Native.Nat.{_<_, _≤_};
 ghost use lib.ListN.{length};
 ghost use Rattle.model.specs.Limits.{maxGrants};
-ghost use Rattle.geometry.specs.Axis.{axes};
 ghost use Rattle.pool.specs.Capacity.{poolLength};
-ghost use Rattle.adt.specs.Node.{linkPlace};
 ghost use Rattle.adt.specs.Insert.{descend, freeHead, nextFree, inserted};
 ghost use Rattle.adt.specs.WalkResult.{wayOf};
 use crate::node::link_place;
 use geometry::axis::LEVELS;
 use geometry::axis::axis_of;
 use geometry::region::Point;
-use geometry::region::halve;
+use geometry::region::half_of;
 use geometry::region::root_region;
 use geometry::region::side_of;
 use model::Grant;
@@ -50,7 +48,7 @@ pub fn find_slot(pool: &[u16], cells: usize, point: Point) -> Slot
         }
         let axis = axis_of(LEVELS - below);
         let side = side_of(&region, axis, point[axis]);
-        region = halve(side, region, axis);
+        region[axis] = half_of(side, region[axis][0], region[axis][1]);
         link = link_place(k, side);
         met += 1;
     }

@@ -1,23 +1,22 @@
 -- What load answers and leaves, test by test.
---   grants-none, grants-more, grants-all    no grant of the file is made yet; one more is; all are
+--   hung-more, hung-all                     one more grant of the file is hung; all are
 --   load-bad, load-file, load-full          the refusals, in their order
 --   load-done                               start's words with the file's grants
 -- Assumes nothing.
-use Prim.Native.Nat.{ℕ, _+_, _<_, _≤_}
+use Prim.Native.Nat.{ℕ, suc, _+_, _<_, _≤_}
 use mathlib.Core.Path.{_≡_, sym, ap, _∙_}
 use mathlib.Core.Bool.{false}
-use mathlib.Core.List.{List, [], _∷_, _++_}
+use mathlib.Core.List.{List, [], _∷_, _++_, List·Memᴰ·head, List·Memᴰ·tail}
 use mathlib.Core.Option.{none, some}
 use native.Mathlib.Omega.{arith}
-use lib.ListN.{drop, drop-of-length-le}
+use lib.ListN.{drop, getD, drop-of-length-le}
 use borrow.Author.Tests.{lt-ltb, le-ltb}
 use Rattle.model.specs.declared.Grant.{Grant}
 use Rattle.model.specs.declared.Fault.{Fault}
 use Rattle.model.specs.declared.Fault.the-variants.{BadPool, Full}
 use Rattle.model.specs.declared.Outcome.{Outcome}
 use Rattle.model.specs.declared.Outcome.the-variants.{Done, Refused}
-use Rattle.model.specs.Kind.{kindNumber}
-use Rattle.model.specs.Call.{request}
+use Rattle.model.specs.Values.{byteValues, Below}
 use Rattle.model.specs.Answer.{accepted, refusal, outcomeAnswer}
 use Rattle.model.specs.Refusal.{Cause, _if_, Step, firstFault, refusing}
 use Rattle.model.proofs.RefusalLaws.{firstFault-append, firstFault-front}
@@ -29,24 +28,29 @@ use Rattle.grants_file.specs.Answers.{fileAnswer}
 use Rattle.grants_file.specs.FileSets.{Accepted}
 use Rattle.grants_file.proofs.FileLaws.{length-grantsIn}
 use Rattle.grants_file.proofs.GrantSteps.{answer-accepted, answer-refused}
-use Rattle.index.specs.Calls.{grantCall}
 use Rattle.index.specs.Causes.{tooManyGrants}
 use Rattle.index.specs.Order.{loadOrder}
-use Rattle.index.specs.FileCalls.{grantAll, loadCall}
+use Rattle.index.specs.FileCalls.{requestOf, grantAll, loadCall}
+use Rattle.index.specs.Plans.{hung, hungAll}
 use Rattle.index.specs.Contract.{Leaves}
+use Rattle.index.proofs.HungLaws.{file-hung}
 use Rattle.index.proofs.RefusalSteps.{refusedBy, first-holds, first-fails, none-left, leaves-as, length-refused, length-taken}
 
 -- the grants from the i-th on
 module _ (f : List ℕ) where
-  pub grants-more : (w : List ℕ) {left : List ℕ} (g : Grant) (i : ℕ) → drop i (grantsIn f) ≡ g ∷ drop (i + 1) (grantsIn f)
-      → {k : ℕ} → k ≡ kindNumber (g .kind) → left ≡ grantCall w (request (g .number) (g .rank) k (g .bounds)) .state
-      → grantAll left (drop (i + 1) (grantsIn f)) ≡ grantAll w (drop i (grantsIn f))
-  unfolding grantAll
-  grants-more w g i e kind s = rw (e, s, kind)
+  pub hung-more : (w : List ℕ) {left : List ℕ} (g : Grant) (i : ℕ) → drop i (grantsIn f) ≡ g ∷ drop (i + 1) (grantsIn f)
+      → left ≡ hung w (requestOf g) → hungAll left (drop (i + 1) (grantsIn f)) ≡ hungAll w (drop i (grantsIn f))
+  unfolding hungAll
+  hung-more w g i e s = rw (e, s)
 
-  pub grants-all : (w : List ℕ) (i : ℕ) → totalIn f ≤ i → grantAll w (drop i (grantsIn f)) ≡ w
-  unfolding grantAll
-  grants-all w i h = rw (drop-of-length-le (grantsIn f) {i = i} (omega (arith, length-grantsIn f)))
+  pub hung-all : (w : List ℕ) (i : ℕ) → totalIn f ≤ i → hungAll w (drop i (grantsIn f)) ≡ w
+  unfolding hungAll
+  hung-all w i h = rw (drop-of-length-le (grantsIn f) {i = i} (omega (arith, length-grantsIn f)))
+
+-- the bytes of a slice are below 256
+bytes-below : (f : List ℕ) → ((i : ℕ) → getD f i 0 < byteValues) → Below byteValues f
+bytes-below (x ∷ f) h y (List·Memᴰ·head e) = rw e (h 0)
+bytes-below (x ∷ f) h y (List·Memᴰ·tail m) = bytes-below f (λ i. h (suc i)) y m
 
 module _ {S : Type 0} (s : S) (lent : List ℕ) (done : Step S) (cs ds : List Cause) where
   row-holds : {f : Fault} → firstFault cs ≡ some f → refusing (cs ++ ds) s lent done ≡ refusedBy f s lent
@@ -95,11 +99,13 @@ module _ (w f : List ℕ) where
                 ∙ row-fails w [] loaded (fileCauses f) (last-cause ∷ []) load-accepted
                 ∙ first-holds w [] loaded _ _ (lt-ltb (capacityOf w) (totalIn f) (omega (arith, cells, t, many))))
 
-            pub load-done : total ≤ c → {left : List ℕ} → left ≡ grantAll (freshPool c) (grantsIn f) → Leaves (accepted []) left (loadCall w f)
+            pub load-done : total ≤ c → ((i : ℕ) → getD f i 0 < byteValues) → {left : List ℕ} → left ≡ hungAll (freshPool c) (grantsIn f) → Leaves (accepted []) left (loadCall w f)
             unfolding loadCall loadOrder
-            load-done few made =
+            load-done few bytes made =
                 let cells = length-taken w e n .capacity in
-                rw (made, ← cells)
+                let taken = length-taken w e n in
+                let same = file-hung f (bytes-below f bytes) load-accepted c (taken .some) (taken .few) (omega (arith, t, few)) in
+                rw (made, ← same, ← cells)
                 (leaves-as
                 (first-fails w [] loaded _ _ right
                 ∙ row-fails w [] loaded (fileCauses f) (last-cause ∷ []) load-accepted

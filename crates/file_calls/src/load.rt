@@ -2,30 +2,29 @@
 // Refuses by 1, the file's faults, then 6. The file is judged whole before a word is written.
 ghost use mathlib.Core.Path.{_≡_};
 ghost use Rattle.model.specs.Answer.{outcomeAnswer};
+ghost use Rattle.pool.specs.Capacity.{Sized};
 ghost use Rattle.grants_file.specs.File.{totalIn, grantsIn};
 ghost use Rattle.grants_file.specs.FileSets.{Accepted};
-ghost use Rattle.index.specs.FileCalls.{grantAll, loadCall};
+ghost use Rattle.index.specs.FileCalls.{loadCall};
+ghost use Rattle.index.specs.Plans.{hungAll};
 ghost use Rattle.index.specs.Contract.{Leaves};
 use grants_file::grants::grant_in;
 use grants_file::grants::total_in;
 use grants_file::verdict::judge;
-use index::grant::grant;
+use index::add::add;
 use model::Fault;
 use model::Outcome;
-use model::kinds::kind_number;
 use pool::fresh::make_fresh;
 use pool::layout::length_capacity;
 
-// Grants of an accepted file, one after the other.
-fn grant_all(pool: &mut [u16], file: &[u8], total: usize)
-    requires { ⌜ Accepted (now file) × (total ≡ totalIn (now file)) ⌝ }
-    ensures { λ r. ⌜ now (pool .exit) ≡ grantAll (now (pool .entry)) (grantsIn (now (file .entry))) ⌝ }
+// Hangs the grants of an accepted file, one after the other: their numbers rise, so each is new, and none is searched for.
+fn add_all(pool: &mut [u16], file: &[u8], cells: usize, total: usize)
+    requires { ⌜ Sized (now pool) cells × Accepted (now file) × (total ≡ totalIn (now file)) ⌝ }
+    ensures { λ r. ⌜ now (pool .exit) ≡ hungAll (now (pool .entry)) (grantsIn (now (file .entry))) ⌝ }
 {
     let mut i: usize = 0;
     while i < total {
-        let g = grant_in(file, i);
-        let kind = g.kind;
-        grant(pool, g.number, g.rank, kind_number(kind), g.bounds);
+        add(pool, cells, grant_in(file, i));
         i += 1;
     }
 }
@@ -46,6 +45,6 @@ pub fn load(pool: &mut [u16], file: &[u8]) -> Outcome
         return Outcome::Refused(Fault::Full);
     }
     make_fresh(pool, cells);
-    grant_all(pool, file, total);
+    add_all(pool, file, cells, total);
     Outcome::Done
 }

@@ -2,7 +2,7 @@
 --   narrow-other, narrow-row      the other axes stay; the one has the range
 --   narrow-shape                  it keeps the shape
 --   narrow-root                   the root's own range changes nothing
---   narrow-half                   a half is the region with the half's range
+--   narrow-half, set-halfOf       a half is the region with the half's range
 --   meets-narrow                  of a region that meets a search range, the changed one meets it exactly if it does on the axis that changed
 -- Assumes nothing.
 use Prim.Native.Nat.{ℕ, _<_, _≤_}
@@ -21,7 +21,7 @@ use Rattle.geometry.specs.declared.Side.{Side}
 use Rattle.geometry.specs.declared.Side.the-variants.{Left, Right}
 use Rattle.geometry.specs.Axis.{axes}
 use Rattle.geometry.specs.Width.{topOf}
-use Rattle.geometry.specs.Region.{Region, Shape, range, rootRegion, low, high, half, narrow, meets}
+use Rattle.geometry.specs.Region.{Region, Shape, range, rootRegion, low, high, half, halfOf, narrow, meets}
 use Rattle.geometry.proofs.RegionLaws.{Shares, meets-ends, ends-meets, lowOf, highOf}
 
 -- a row of two numbers is its ends
@@ -40,6 +40,10 @@ pub narrow-half : (s : Side) (g : Region) (a : ℕ) → Shape g → a < axes →
 unfolding half
 narrow-half Left g a w lt = ap (λ (l : List ℕ). set g a (set l 1 (highOf Left g a))) (sym (row-ends (getD g a []) (w .ends a lt)))
 narrow-half Right g a w lt = ap (λ (l : List ℕ). set g a (set l 0 (lowOf Right g a))) (sym (row-ends (getD g a []) (w .ends a lt)))
+
+pub set-halfOf : (s : Side) (g : Region) (a : ℕ) → Shape g → a < axes → set g a (halfOf s (low g a) (high g a)) ≡ half s g a
+set-halfOf Left g a w lt = narrow-half Left g a w lt
+set-halfOf Right g a w lt = narrow-half Right g a w lt
 
 module _ (g : Region) (a l h : ℕ) (w : Shape g) (lt : a < axes) where
   abbrev n : Region

@@ -23,7 +23,7 @@ use lib.ListN.{length, getD, set, length-set, length-map}
 use lib.Seq.{getD-set-same, getD-set-other}
 use borrow.Author.Tests.{leb-true, leb-false}
 use Rattle.lists.specs.Ranges.{countFrom}
-use Rattle.lists.proofs.TestLaws.{tests-agree, both-le, le-both, each-all, all-each}
+use Rattle.lists.proofs.TestLaws.{both-le, le-both, each-all, all-each}
 use Rattle.lists.proofs.ElementLaws.{getD-map}
 use Rattle.lists.proofs.RangeLaws.{length-countFrom, getD-countFrom}
 use Rattle.geometry.specs.declared.Side.{Side}

@@ -5,6 +5,7 @@
 --   middle r a            where the axis is parted: the last coordinate of the lower half
 --   sideOf r a x          the half that holds the coordinate x
 --   half s r a            that half: one range changes
+--   halfOf s l h          the half of the range l to h on a side
 --   narrow r a l h        the region with another range on an axis; a half is one
 --   meetsOn r q a, meets r q   the two share a coordinate on the axis, and on every axis
 -- Source 001's (2b) names the left son's low where the right son's is meant; (3) is half-open, so its end is one above `high`.
@@ -56,6 +57,10 @@ sideOf r a x = cond (leb x (middle r a)) Left Right
 unfoldable pub half : Side → Region → ℕ → Region
 half Left r a = set r a (set (getD r a []) 1 (middle r a))
 half Right r a = set r a (set (getD r a []) 0 ((low r a + high r a + 1) / 2))
+
+abbrev pub halfOf : Side → ℕ → ℕ → List ℕ
+halfOf Left lowest highest = range lowest ((lowest + highest) / 2)
+halfOf Right lowest highest = range ((lowest + highest + 1) / 2) highest
 
 abbrev pub narrow : Region → ℕ → ℕ → ℕ → Region
 narrow r a lowest highest = set r a (range lowest highest)

@@ -2,7 +2,7 @@
 ghost use mathlib.Core.Path.{_≡_};
 ghost use Prim.Native.Nat.{_+_, _/_, _<_};
 ghost use Rattle.geometry.specs.Axis.{axes};
-ghost use Rattle.geometry.specs.Region.{rootRegion, half, narrow, meets, sideOf};
+ghost use Rattle.geometry.specs.Region.{rootRegion, halfOf, narrow, meets, sideOf};
 use crate::Side;
 use crate::axis::AXES;
 use crate::axis::TOP;
@@ -27,25 +27,6 @@ pub fn root_region() -> Region
     [axis; AXES]
 }
 
-// The half of the region on a side: one range changes.
-pub fn halve(side: Side, mut region: Region, axis: usize) -> Region
-    requires { ⌜ axis < axes ⌝ }
-    ensures { λ r. ⌜ r ≡ half side region axis ⌝ }
-{
-    let low = wide(region[axis][0]);
-    let high = wide(region[axis][1]);
-    match side {
-        Side::Left => {
-            region[axis][1] = ((low + high) / 2) as u16;
-            region
-        }
-        Side::Right => {
-            region[axis][0] = ((low + high + 1) / 2) as u16;
-            region
-        }
-    }
-}
-
 // The region with another range on an axis, such as a half of its own.
 pub fn narrow(mut region: Region, axis: usize, low: u16, high: u16) -> Region
     requires { ⌜ axis < axes ⌝ }
@@ -67,6 +48,16 @@ pub fn upper_start(low: u16, high: u16) -> u16
     ensures { λ r. ⌜ r ≡ (low + high + 1) / 2 ⌝ }
 {
     ((wide(low) + wide(high) + 1) / 2) as u16
+}
+
+// The half of a range on a side.
+pub fn half_of(side: Side, low: u16, high: u16) -> [u16; 2]
+    ensures { λ r. ⌜ r ≡ halfOf side low high ⌝ }
+{
+    match side {
+        Side::Left => [low, lower_end(low, high)],
+        Side::Right => [upper_start(low, high), high],
+    }
 }
 
 // The side whose half holds a coordinate.

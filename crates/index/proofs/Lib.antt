@@ -9,6 +9,7 @@ pub mod CallLaws
 pub mod HoldsLaws
 pub mod WriteLaws
 pub mod LoadLaws
+pub mod HungLaws
 pub mod MatchLaws
 pub mod AlikeLaws
 pub mod SoundLaws

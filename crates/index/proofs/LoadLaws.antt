@@ -1,9 +1,12 @@
 -- Grants in a row on words that stand for a plain book, and load (document 01, "The grants file").
 --   bookOf c gs             the book of c cells that holds gs
 --   Grantable g             a grant that grant takes: its values fit, its number is not 0, its box is not reversed
+--   requested-requestOf     what grant adds of a grant that is asked for whole
 --   requestOf-fits          a grant that fits, as grant takes it
+--   absent-not-live         a number that no live grant has is not live
 --   grant-adds              grant takes it, where its number is new and a cell is free
 --   grantAll-represents     so it does a list of grants of differing numbers, where cells are enough
+--   set-grantable           the grants of a set are such
 --   set-represents          the set of a file, granted to a fresh index in any order
 --   load-set                what load answers and leaves, of the file of a set
 --   load-represents         the words then stand for the book that holds it
@@ -64,7 +67,7 @@ pub record Grantable (g : Grant) : Type 0 where
   pub numbered : 1 ≤ g .number
   pub upright : reversedBox (g .bounds) ≡ false
 
-requested-requestOf : (g : Grant) → requested (requestOf g) ≡ g
+pub requested-requestOf : (g : Grant) → requested (requestOf g) ≡ g
 requested-requestOf g = λ i. record { number = g .number; rank = g .rank; kind = back (g .kind) i; bounds = g .bounds }
   where
     back : (k : Kind) → kindOf (kindNumber k) ≡ k
@@ -93,7 +96,7 @@ module _ {w : List ℕ} {b : Book} (h : Represents w b) (g : Grant) (t : Grantab
       (ap (λ (x : Told). x .answer) (agrees .same), agrees .related)
 
 -- a number that no live grant has is not live
-absent-not-live : (b : Book) (n : ℕ) → ¬ List·Memᴰ n (map numberOf (b .live)) → isLive b n ≡ false
+pub absent-not-live : (b : Book) (n : ℕ) → ¬ List·Memᴰ n (map numberOf (b .live)) → isLive b n ≡ false
 absent-not-live b n absent = go (isLive b n) refl
   where
     go : (live : Bool) → isLive b n ≡ live → live ≡ false
@@ -117,7 +120,7 @@ grantAll-represents {w} {b} (g ∷ gs) h each (distinct-more n d) room =
     (grantAll-represents gs added (λ x m. each x (List·Memᴰ·tail m)) apart (omega (arith, length-put (put-insertBy numberOf g live))))
 
 module _ {doors : Interval} {gs : List Grant} (s : FileSet doors gs) where
-  set-grantable : (g : Grant) → List·Memᴰ g gs → Grantable g
+  pub set-grantable : (g : Grant) → List·Memᴰ g gs → Grantable g
   set-grantable g m = record { fits = s .each g m .fits; numbered = omega (arith, ascending-above (s .ascending) g m); upright = s .each g m .order }
 
   module _ {c : ℕ} (memory : List ℕ) (z : Sized memory c) (room : length gs ≤ c) where

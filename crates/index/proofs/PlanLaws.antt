@@ -3,6 +3,9 @@
 --   grant-pool, grant-zero, grant-kind, grant-reversed, grant-broken, grant-live, grant-absent   grant's line, in its order
 --   slot-way, slot-lost, free-above, free-none, free-next-above, free-planned   the way down and the free head
 --   plan-inserts, grant-refused, grant-done     what grant stores and leaves
+--   absent-line                                 where the number isn't found, the way down and the free head alone decide
+--   planned-as                                  a plan, of an equal request
+--   hung-refused, hung-done, hung-grant         what is left where the number is known to be new; it is what grant leaves
 --   revoke-pool, revoke-zero, revoke-broken, revoke-absent, revoke-lost, revoke-planned    revoke's line
 --   hit-within, plan-removes, revoke-refused, revoke-done   what revoke stores and leaves
 --   start-refused, start-done
@@ -22,7 +25,7 @@ use Rattle.model.specs.declared.Grant.{Grant}
 use Rattle.model.specs.declared.Outcome.the-variants as outcome
 use Rattle.model.specs.Limits.{maxGrants}
 use Rattle.model.specs.Answer.{outcomeAnswer}
-use Rattle.model.specs.Refusal.{_if_, firstFault, refusing}
+use Rattle.model.specs.Refusal.{Cause, _if_, firstFault, refusing}
 use Rattle.model.specs.Arguments.{reversedBox}
 use Rattle.model.specs.Call.{Request, requested}
 use Rattle.geometry.specs.Levels.{levels}
@@ -49,11 +52,16 @@ use Rattle.index.specs.Calls.{startCall, grantCall, revokeCall, grantLin
 use Rattle.index.specs.Contract.{Leaves}
 use Rattle.index.specs.NumberSearch.{FirstAt, NumberFound}
 use Rattle.index.proofs.RefusalSteps.{Taken}
-use Rattle.index.specs.Plans.{slotOrder, Insertable, InsertionPlanned, Found, RemovalPlanned}
+use Rattle.index.specs.Plans.{slotOrder, hung, Insertable, InsertionPlanned, Found, RemovalPlanned}
 
 -- a pool that was taken has the size of its cells
 pub sized : {wrong : Bool} {w : List ℕ} {c : ℕ} → Taken wrong w c → Sized w c
 sized t = record { some = t .some; few = t .few; long = t .long }
+
+-- a plan, of an equal request
+pub planned-as : (w : List ℕ) {r r′ : Request} → r ≡ r′ → {p p′ : Insertion} → p ≡ p′ → InsertionPlanned (slotOrder w r) w r p → InsertionPlanned (slotOrder w r′) w r′ p′
+planned-as w {r} {r′} er {p} ep i =
+    subst (InsertionPlanned (slotOrder w r′) w r′) ep (subst (λ (x : Request). InsertionPlanned (slotOrder w x) w x p) er i)
 
 -- grant's line, as far as its tests have come
 module _ (w : List ℕ) (r : Request) where
@@ -92,7 +100,7 @@ module _ (w : List ℕ) (r : Request) where
           grant-live cell level link f = to-walks ∙ rw (f .found, eqb·suc-zero (length (f .others)))
 
           module _ (f : NumberFound w (r .number) hit.Absent) where
-            absent-line : firstFault (grantLine w r) ≡ firstFault (slotOrder w r)
+            pub absent-line : firstFault (grantLine w r) ≡ firstFault (slotOrder w r)
             unfolding NumberFound firstFault grantBroken slotOrder
             absent-line = to-walks ∙ rw (f .unbroken, f .none)
 
@@ -147,10 +155,10 @@ module _ (w : List ℕ) (r : Request) where
         }
 
   -- what the stores need
-  pub plan-inserts : (link free next : ℕ) → InsertionPlanned (grantLine w r) w r (insertion.At link free next)
+  pub plan-inserts : (causes : List Cause) (link free next : ℕ) → InsertionPlanned causes w r (insertion.At link free next)
       → (0 < free) × (free ≤ maxGrants) × (poolLength free ≤ length w) × (link < length w) × (free ≡ freeHead w) × (next ≡ nextFree w)
   unfolding InsertionPlanned
-  plan-inserts link free next p = (p .cell .some, p .cell .few, p .cell .long, p .place, p .head, p .after)
+  plan-inserts causes link free next p = (p .cell .some, p .cell .few, p .cell .long, p .place, p .head, p .after)
 
   pub grant-refused : (fault : Fault) → InsertionPlanned (grantLine w r) w r (insertion.Refused fault) → Leaves (outcomeAnswer (outcome.Refused fault)) w (grantCall w r)
   unfolding InsertionPlanned grantCall refusing
@@ -160,6 +168,19 @@ module _ (w : List ℕ) (r : Request) where
       → Leaves (outcomeAnswer outcome.Done) v (grantCall w r)
   unfolding InsertionPlanned grantCall refusing
   grant-done link free next p e = record { answered = rw (p .passes); left = e ∙ rw (p .passes, p .way) }
+
+  -- the same where the number is known to be new
+  pub hung-refused : (fault : Fault) → InsertionPlanned (slotOrder w r) w r (insertion.Refused fault) → w ≡ hung w r
+  unfolding InsertionPlanned hung refusing
+  hung-refused fault e = rw (hung, e)
+
+  pub hung-done : (link free next : ℕ) {v : List ℕ} → InsertionPlanned (slotOrder w r) w r (insertion.At link free next) → v ≡ inserted w link (requested r) → v ≡ hung w r
+  unfolding InsertionPlanned hung refusing
+  hung-done link free next p e = e ∙ rw (hung, p .passes, p .way)
+
+  pub hung-grant : firstFault (grantLine w r) ≡ firstFault (slotOrder w r) → grantCall w r .state ≡ hung w r
+  unfolding hung grantCall refusing
+  hung-grant e = rw e
 
 -- revoke's line, as far as its tests have come
 module _ (w : List ℕ) (n : ℕ) where

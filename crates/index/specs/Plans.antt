@@ -1,6 +1,8 @@
 -- What the code of grant and revoke knows once all walks and tests are done, and before it writes. Contracts of inner functions cite it;
 -- no claim does.
 --   slotOrder w r                    the end of grant's order line, where the number isn't found
+--   hung w r                         the words with the requested grant hung, where the number is known to be new: no search for it
+--   hungAll w gs                     the same of grants, one after the other
 --   InsertionPlanned causes w r p    p refuses by these causes, or says where the requested grant hangs
 --   RemovalPlanned w n p             p refuses as revoke does, or says which cell goes and which takes its place
 -- Assumes nothing: these are definitions.
@@ -11,8 +13,10 @@ use mathlib.Core.List.{List, [], _∷_}
 use mathlib.Core.Option.{none, some}
 use lib.ListN.{length}
 use Rattle.model.specs.declared.Fault.the-variants.{BrokenLinks, Full}
+use Rattle.model.specs.declared.Grant.{Grant}
 use Rattle.model.specs.Limits.{maxGrants}
-use Rattle.model.specs.Refusal.{Cause, _if_, firstFault}
+use Rattle.model.specs.Refusal.{Cause, _if_, firstFault, refusing}
+use Rattle.model.specs.Answer.{accepted}
 use Rattle.model.specs.Call.{Request}
 use Rattle.pool.specs.Capacity.{poolLength}
 use Rattle.adt.specs.Insert.{freeHead, nextFree, freeBroken, blankAt}
@@ -24,10 +28,19 @@ use Rattle.index.specs.declared.revoke.Removal.{Removal}
 use Rattle.index.specs.declared.revoke.Removal.the-variants as removal
 use Rattle.index.specs.Walks.{numberSearch, firstHit, firstSpotOf, requestWay, removalOf}
 use Rattle.index.specs.Causes.{noFreeCell, wayLost}
-use Rattle.index.specs.Calls.{revokeLine}
+use Rattle.index.specs.Calls.{grantedWords, revokeLine}
+use Rattle.index.specs.FileCalls.{requestOf}
 
 unfoldable pub slotOrder : List ℕ → Request → List Cause
 slotOrder w r = BrokenLinks if (wayLost (requestWay w r) || freeBroken w) ∷ Full if noFreeCell w ∷ []
+
+unfoldable pub hung : List ℕ → Request → List ℕ
+hung w r = refusing (slotOrder w r) w [] (record { state = grantedWords w r (requestWay w r); answer = accepted []; lent = [] }) .state
+
+-- one grant after the other
+unfoldable pub hungAll : List ℕ → List Grant → List ℕ
+hungAll w [] = w
+hungAll w (g ∷ gs) = hungAll (hung w (requestOf g)) gs
 
 pub record Insertable (causes : List Cause) (w : List ℕ) (r : Request) (link free next : ℕ) : Type 0 where
   pub passes : firstFault causes ≡ none

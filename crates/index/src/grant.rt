@@ -79,7 +79,14 @@ fn plan_free(
 }
 
 // The way down, and then the free head: what is left where the number isn't found.
-fn plan_slot(pool: &[u16], cells: usize, number: u16, rank: u8, kind: u8, bounds: Box) -> Insertion
+pub fn plan_slot(
+    pool: &[u16],
+    cells: usize,
+    number: u16,
+    rank: u8,
+    kind: u8,
+    bounds: Box,
+) -> Insertion
     requires { ⌜ Sized (now pool) cells ⌝ }
     ensures { λ r. ⌜ InsertionPlanned (slotOrder (now (pool .entry)) (request number rank kind bounds)) (now (pool .entry)) (request number rank kind bounds) r ⌝ }
 {

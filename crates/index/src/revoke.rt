@@ -1,5 +1,4 @@
 // revoke: drops the grant of a number. Refuses 1, 3, 9 and 7, in this order, and then leaves everything as it was.
-ghost use mathlib.Core.Path.{_≡_};
 ghost use Rattle.model.specs.Answer.{outcomeAnswer};
 ghost use Rattle.index.specs.Calls.{revokeCall};
 ghost use Rattle.index.specs.Contract.{Leaves};

@@ -1,6 +1,5 @@
 // Tests of boxes: when two overlap (source 001, condition 5), and when one has a from above its to.
 ghost use mathlib.Core.Path.{_≡_};
-ghost use Rattle.model.specs.Interval.{reversed};
 ghost use Rattle.model.specs.Overlap.{overlapOn, overlaps};
 ghost use Rattle.model.specs.Arguments.{reversedBox};
 use crate::Box;

@@ -9,7 +9,6 @@ use index::decide::decide;
 use index::grant::grant;
 use index::list::list;
 use index::revoke::revoke;
-use model::Box;
 use slip_text::Slip;
 use slip_text::printing::LINE_BYTES;
 use slip_text::printing::print_bad;

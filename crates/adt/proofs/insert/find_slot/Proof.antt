@@ -3,17 +3,20 @@ use lib.Dec.{lit≤}
 use Rattle.adt.proofs.WaySteps.{way-end, way-blank, way-above, way-full, way-next}
 use Rattle.adt.specs.Insert.{wayDown, descend}
 use Rattle.pool.proofs.CapacityLaws.{capacityOf-poolLength}
-use Rattle.pool.specs.Capacity.{poolLength}
 use lib.ListN.{length}
 use native.Mathlib.Omega.{arith}
-use mathlib.Core.Path.{_≡_, refl, sym, ap, _∙_}
+use mathlib.Core.Path.{_≡_, sym, ap, subst, _∙_}
+use lib.ListN.{set}
+use Rattle.geometry.specs.Region.{Shape}
+use Rattle.geometry.proofs.RegionLaws.{root-shape, half-shape}
+use Rattle.geometry.proofs.NarrowLaws.{set-halfOf}
 use Prim.Native.Nat.{_≤_, _<_}
 use borrow.Author.Needs.{needs}
 use Rattle.adt.proofs.insert.find_slot.Statement.{statement}
 use Rattle.adt.proofs.insert.find_slot.Tie as tie
 
 abbrev Inv-loop : tie.InvT-loop
-Inv-loop pool cells point region₀ link₀ below₀ met₀ region link below met = (below ≤ 113) × (link < length pool) × (met ≤ cells) × (wayDown pool cells point below link region met ≡ descend pool point)
+Inv-loop pool cells point region₀ link₀ below₀ met₀ region link below met = (below ≤ 113) × (link < length pool) × (met ≤ cells) × Shape region × (wayDown pool cells point below link region met ≡ descend pool point)
 
 abbrev μ-loop : tie.MeasureT-loop
 μ-loop pool cells point region₀ link₀ below₀ met₀ region link below met = below
@@ -28,7 +31,7 @@ loop-holds : tie.Need-loop-holds Inv-loop μ-loop
 unfolding descend
 loop-holds c =
     let p = c .before .before .pre in
-    (lit≤ tt, omega (arith, p .1), search needs, rw (c .root-region .ensures, capacityOf-poolLength _ _ (p .1)))
+    (lit≤ tt, omega (arith, p .1), search needs, subst Shape (sym (c .root-region .ensures)) root-shape, rw (c .root-region .ensures, capacityOf-poolLength _ _ (p .1)))
 
 sub-below : tie.Need-sub-below Inv-loop μ-loop
 sub-below c = search needs
@@ -43,13 +46,13 @@ wide-requires : tie.Need-wide-requires Inv-loop μ-loop
 wide-requires c κs = search needs
 
 returns : tie.Need-returns Inv-loop μ-loop
-returns c = way-blank _ _ _ _ _ _ _ _ (c .before .before .before .loop-test .taken) (c .before .wide .ensures .0) (c .if1 .taken) ∙ c .before .before .before .before .loop .inv .3
+returns c = way-blank _ _ _ _ _ _ _ _ (c .before .before .before .loop-test .taken) (c .before .wide .ensures .0) (c .if1 .taken) ∙ c .before .before .before .before .loop .inv .4
 
 returns-2 : tie.Need-returns-2 Inv-loop μ-loop
-returns-2 c = way-above _ _ _ _ _ _ _ _ (c .before .before .before .before .loop-test .taken) (c .before .before .wide .ensures .0) (c .before .if1 .left) (c .if2 .taken) ∙ c .before .before .before .before .before .loop .inv .3
+returns-2 c = way-above _ _ _ _ _ _ _ _ (c .before .before .before .before .loop-test .taken) (c .before .before .wide .ensures .0) (c .before .if1 .left) (c .if2 .taken) ∙ c .before .before .before .before .before .loop .inv .4
 
 returns-3 : tie.Need-returns-3 Inv-loop μ-loop
-returns-3 c = way-full _ _ _ _ _ _ _ _ (c .before .before .before .before .before .loop-test .taken) (c .before .before .before .wide .ensures .0) (c .before .before .if1 .left) (c .before .if2 .left) (c .if3 .taken) ∙ c .before .before .before .before .before .before .loop .inv .3
+returns-3 c = way-full _ _ _ _ _ _ _ _ (c .before .before .before .before .before .loop-test .taken) (c .before .before .before .wide .ensures .0) (c .before .before .if1 .left) (c .before .if2 .left) (c .if3 .taken) ∙ c .before .before .before .before .before .before .loop .inv .4
 
 sub-axis-of : tie.Need-sub-axis-of Inv-loop μ-loop
 sub-axis-of c = search needs
@@ -66,8 +69,32 @@ array-read-side-of c = search needs
 side-of-requires : tie.Need-side-of-requires Inv-loop μ-loop
 side-of-requires c κs = search needs
 
-halve-requires : tie.Need-halve-requires Inv-loop μ-loop
-halve-requires c κs = search needs
+mul-half-of : tie.Need-mul-half-of Inv-loop μ-loop
+mul-half-of c = search needs
+
+index-1-half-of : tie.Need-index-1-half-of Inv-loop μ-loop
+index-1-half-of c = search needs
+
+index-2-half-of : tie.Need-index-2-half-of Inv-loop μ-loop
+index-2-half-of c = search needs
+
+mul-half-of-2 : tie.Need-mul-half-of-2 Inv-loop μ-loop
+mul-half-of-2 c = search needs
+
+index-1-half-of-2 : tie.Need-index-1-half-of-2 Inv-loop μ-loop
+index-1-half-of-2 c = search needs
+
+index-2-half-of-2 : tie.Need-index-2-half-of-2 Inv-loop μ-loop
+index-2-half-of-2 c = search needs
+
+half-of-requires : tie.Need-half-of-requires Inv-loop μ-loop
+half-of-requires c κs = search needs
+
+mul-region : tie.Need-mul-region Inv-loop μ-loop
+mul-region c = search needs
+
+array-set-from-region : tie.Need-array-set-from-region Inv-loop μ-loop
+array-set-from-region c = search needs
 
 link-place-requires : tie.Need-link-place-requires Inv-loop μ-loop
 link-place-requires c κs = search needs
@@ -80,17 +107,27 @@ loop-less c = search needs
 
 loop-again : tie.Need-loop-again Inv-loop μ-loop
 loop-again c =
-    let i = c .before .before .before .before .before .before .before .before .before .before .before .loop .inv in
-    let p = c .before .before .before .before .before .before .before .before .before .before .before .before .before .before .pre in (
-      omega (arith, i .0),
-      omega (arith, c .link-place .ensures .1, p .1, c .before .before .before .before .before .before .if2 .left),
-      omega (arith, c .before .before .before .before .before .if3 .left),
-      way-next _ _ _ _ _ _ _ _ (c .before .before .before .before .before .before .before .before .before .before .loop-test .taken) (c .before .before .before .before .before .before .before .before .wide .ensures .0) (c .before .before .before .before .before .before .before .if1 .left) (c .before .before .before .before .before .before .if2 .left) (c .before .before .before .before .before .if3 .left) (c .before .before .before .before .axis-of .ensures .0) (c .before .before .side-of .ensures) (c .before .halve .ensures) (c .link-place .ensures .0)
-          ∙ i .3,
+    let halved = c .before in
+    let sided = halved .before .before .before in
+    let axed = sided .before .before in
+    let three = axed .before in
+    let two = three .before in
+    let one = two .before in
+    let read = one .before in
+    let inner = read .before .before in
+    let l = inner .before .loop in
+    let p = inner .before .before .before .before .pre in
+    let half = ap (set (l .region) (axed .axis-of .result)) (halved .half-of .ensures) ∙ set-halfOf _ (l .region) _ (l .inv .3) (axed .axis-of .ensures .1) in (
+      omega (arith, l .inv .0),
+      omega (arith, c .link-place .ensures .1, p .1, two .if2 .left),
+      omega (arith, three .if3 .left),
+      subst Shape (sym half) (half-shape _ (l .region) _ (l .inv .3) (axed .axis-of .ensures .1)),
+      way-next _ _ _ _ _ _ _ _ (inner .loop-test .taken) (read .wide .ensures .0) (one .if1 .left) (two .if2 .left) (three .if3 .left) (axed .axis-of .ensures .0) (sided .side-of .ensures) half (c .link-place .ensures .0)
+          ∙ l .inv .4,
     )
 
 returns-4 : tie.Need-returns-4 Inv-loop μ-loop
-returns-4 c = way-end _ _ _ _ _ _ _ (c .loop-test .left) ∙ c .before .loop .inv .3
+returns-4 c = way-end _ _ _ _ _ _ _ (c .loop-test .left) ∙ c .before .loop .inv .4
 
 pub find-slot-spec : {M : Type 1} → statement M
 find-slot-spec =
@@ -113,7 +150,15 @@ find-slot-spec =
     mul-side-of
     array-read-side-of
     side-of-requires
-    halve-requires
+    mul-half-of
+    index-1-half-of
+    index-2-half-of
+    mul-half-of-2
+    index-1-half-of-2
+    index-2-half-of-2
+    half-of-requires
+    mul-region
+    array-set-from-region
     link-place-requires
     add-met
     loop-less

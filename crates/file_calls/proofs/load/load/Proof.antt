@@ -1,10 +1,11 @@
 -- `load::load` meets its contract, test by test. Assumes nothing.
 use Prim.Native.Nat.{ℕ}
 use mathlib.Core.Path.{ap, _∙_}
+use native.Mathlib.Omega.{arith}
 use mathlib.Core.List.{List}
 use Rattle.grants_file.specs.File.{grantsIn}
 use Rattle.grants_file.proofs.GrantSteps.{accepted-whole}
-use Rattle.index.specs.FileCalls.{grantAll}
+use Rattle.index.specs.Plans.{hungAll}
 use Rattle.index.proofs.RefusalSteps.{length-taken}
 use Rattle.file_calls.proofs.LoadSteps.{load-accepted, load-bad, load-file, load-full, load-done}
 use borrow.Author.Needs.{needs}
@@ -66,30 +67,38 @@ make-fresh-requires c κs =
     let t = length-taken (start .args .pool .now) (some .before .length-capacity .ensures) (some .if1 .left) in
     (t .some, t .few, t .long)
 
-grant-all-requires : tie.Need-grant-all-requires
-grant-all-requires c κs =
-    let counted = c .before .before .before .before .before .before in
+add-all-requires : tie.Need-add-all-requires
+add-all-requires c κs =
+    let made = c .before .before .before in
+    let counted = made .before .before .before in
     let told = counted .before in
     let judged = told .before .before in
     let some = judged .before in
     let start = some .before .before .before .before .before in
-    (load-accepted (start .args .pool .now) _ (some .before .length-capacity .ensures) (some .if1 .left) (judged .judge .ensures) (told .enum-told .given .1), counted .total-in .ensures .0)
+    let t = length-taken (start .args .pool .now) (some .before .length-capacity .ensures) (some .if1 .left) in
+    let size = made .make-fresh .kept .0 ∙ t .long in (
+      record { some = t .some; few = t .few; long = size },
+      load-accepted (start .args .pool .now) _ (some .before .length-capacity .ensures) (some .if1 .left) (judged .judge .ensures) (told .enum-told .given .1),
+      counted .total-in .ensures .0,
+    )
 
 same-length-4 : tie.Need-same-length-4
 same-length-4 c = search needs
 
 returns-4 : tie.Need-returns-4
 returns-4 c =
-    let granted = c .before .before in
-    let made = granted .before .before .before .before in
+    let added = c .before .before in
+    let made = added .before .before .before .before in
     let few = made .before .before in
     let counted = few .before in
     let told = counted .before in
     let judged = told .before .before in
     let some = judged .before in
-    let start = some .before .before .before .before .before in
+    let known = some .before .before .before in
+    let start = known .before .before in
     load-done (start .args .pool .now) _ (some .before .length-capacity .ensures) (some .if1 .left) (judged .judge .ensures) (told .enum-told .given .1) (counted .total-in .ensures .0) (few .if2 .left)
-    (granted .grant-all .ensures ∙ ap (λ (w : List ℕ). grantAll w (grantsIn (start .args .file .now))) (made .make-fresh .ensures))
+    (λ i. omega (arith, known .shared-slice-known .given i))
+    (added .add-all .ensures ∙ ap (λ (w : List ℕ). hungAll w (grantsIn (start .args .file .now))) (made .make-fresh .ensures))
 
 pub load-spec : {M : Type 1} → statement M
 load-spec =
@@ -107,6 +116,6 @@ load-spec =
     same-length-3
     returns-3
     make-fresh-requires
-    grant-all-requires
+    add-all-requires
     same-length-4
     returns-4)

@@ -21,7 +21,7 @@ requested-requires : tie.Need-requested-requires
 requested-requires c κs = search needs
 
 insert-requires : tie.Need-insert-requires
-insert-requires c κs = plan-inserts _ (record { number = c .before .before .before .before .before .before .before .before .args .number; rank = c .before .before .before .before .before .before .before .before .args .rank; kind = c .before .before .before .before .before .before .before .before .args .kind; bounds = c .before .before .before .before .before .before .before .before .args .bounds }) _ _ _ (subst (InsertionPlanned (grantLine (c .before .before .before .before .before .before .before .before .args .pool .now) (record { number = c .before .before .before .before .before .before .before .before .args .number; rank = c .before .before .before .before .before .before .before .before .args .rank; kind = c .before .before .before .before .before .before .before .before .args .kind; bounds = c .before .before .before .before .before .before .before .before .args .bounds })) (c .before .before .before .before .before .before .before .before .args .pool .now) (record { number = c .before .before .before .before .before .before .before .before .args .number; rank = c .before .before .before .before .before .before .before .before .args .rank; kind = c .before .before .before .before .before .before .before .before .args .kind; bounds = c .before .before .before .before .before .before .before .before .args .bounds })) (c .before .before .before .plan2 .given .1) (c .before .before .before .before .before .plan-insertion .ensures))
+insert-requires c κs = plan-inserts _ (record { number = c .before .before .before .before .before .before .before .before .args .number; rank = c .before .before .before .before .before .before .before .before .args .rank; kind = c .before .before .before .before .before .before .before .before .args .kind; bounds = c .before .before .before .before .before .before .before .before .args .bounds }) _ _ _ _ (subst (InsertionPlanned (grantLine (c .before .before .before .before .before .before .before .before .args .pool .now) (record { number = c .before .before .before .before .before .before .before .before .args .number; rank = c .before .before .before .before .before .before .before .before .args .rank; kind = c .before .before .before .before .before .before .before .before .args .kind; bounds = c .before .before .before .before .before .before .before .before .args .bounds })) (c .before .before .before .before .before .before .before .before .args .pool .now) (record { number = c .before .before .before .before .before .before .before .before .args .number; rank = c .before .before .before .before .before .before .before .before .args .rank; kind = c .before .before .before .before .before .before .before .before .args .kind; bounds = c .before .before .before .before .before .before .before .before .args .bounds })) (c .before .before .before .plan2 .given .1) (c .before .before .before .before .before .plan-insertion .ensures))
 
 same-length : tie.Need-same-length
 same-length c = search needs

@@ -1,0 +1,72 @@
+-- `add::add` meets its contract: what was planned is stored. Assumes nothing.
+use Prim.Native.Nat.{ℕ}
+use mathlib.Core.Path.{_≡_, sym, ap, _∙_}
+use Rattle.model.specs.declared.Grant.{Grant}
+use Rattle.model.specs.Kind.{kindNumber}
+use Rattle.model.specs.Call.{request}
+use Rattle.adt.specs.Insert.{inserted}
+use Rattle.index.specs.FileCalls.{requestOf}
+use Rattle.index.proofs.PlanLaws.{planned-as, plan-inserts, hung-refused, hung-done}
+use Rattle.index.proofs.LoadLaws.{requested-requestOf}
+use borrow.Author.Needs.{needs}
+use Rattle.index.proofs.add.add.Statement.{statement}
+use Rattle.index.proofs.add.add.Tie as tie
+
+same-request : (g : Grant) {k : ℕ} → k ≡ kindNumber (g .kind) → request (g .number) (g .rank) k (g .bounds) ≡ requestOf g
+same-request g e = ap (λ (k : ℕ). request (g .number) (g .rank) k (g .bounds)) e
+
+kind-number-requires : tie.Need-kind-number-requires
+kind-number-requires c κs = search needs
+
+plan-slot-requires : tie.Need-plan-slot-requires
+plan-slot-requires c κs = search needs
+
+enum-told : tie.Need-enum-told
+enum-told c = search needs
+
+enum-known-plan : tie.Need-enum-known-plan
+enum-known-plan c = search needs
+
+insert-requires : tie.Need-insert-requires
+insert-requires c κs =
+    let planned = c .before .before .before .before in
+    let kinded = planned .before in
+    let start = kinded .before .before .before in
+    plan-inserts (start .args .pool .now) (requestOf (start .args .g)) _ _ _ _ (planned-as (start .args .pool .now) (same-request (start .args .g) (kinded .kind-number .ensures .0)) (c .before .before .plan .given .1) (planned .plan-slot .ensures))
+
+same-length : tie.Need-same-length
+same-length c = search needs
+
+returns : tie.Need-returns
+returns c =
+    let planned = c .before .before in
+    let kinded = planned .before in
+    let start = kinded .before .before .before in
+    hung-refused (start .args .pool .now) (requestOf (start .args .g)) _ (planned-as (start .args .pool .now) (same-request (start .args .g) (kinded .kind-number .ensures .0)) (c .enum-told .given .1) (planned .plan-slot .ensures))
+
+same-length-2 : tie.Need-same-length-2
+same-length-2 c = search needs
+
+returns-2 : tie.Need-returns-2
+returns-2 c =
+    let stored = c .before .before in
+    let planned = stored .before .before .before .before .before in
+    let kinded = planned .before in
+    let start = kinded .before .before .before in
+    let g = start .args .g in
+    hung-done (start .args .pool .now) (requestOf g) _ _ _ (planned-as (start .args .pool .now) (same-request g (kinded .kind-number .ensures .0)) (stored .before .before .before .plan .given .1) (planned .plan-slot .ensures))
+    (stored .insert .ensures ∙ ap (inserted (start .args .pool .now) _) (sym (requested-requestOf g)))
+
+pub add-spec : {M : Type 1} → statement M
+add-spec =
+    tie.close
+    (tie.spec
+    kind-number-requires
+    plan-slot-requires
+    enum-told
+    enum-known-plan
+    insert-requires
+    same-length
+    returns
+    same-length-2
+    returns-2)
