@@ -1,11 +1,22 @@
 // Every call ends soon on every pool (document 00, demand 1): pools whose links form cycles, through which a walk that went on would take
-// 2^112 ways. Each call is made on each pool, as a slip, and answers at once.
+// 2^112 ways. Each call is made on each pool, the slips' as slips, and answers at once; so do write, and match against the file of an
+// empty index.
+use file_calls::matching::match_file;
+use file_calls::write::write;
+use index::start::start;
 use libc::STDOUT_FILENO;
+use model::Matched;
+use model::Outcome;
+use model::Written;
 use slip_session::answer;
 use slip_text::printing::LINE_BYTES;
+use slip_text::printing::print_outcome;
 
 // The words of a pool of 2,048 cells.
 const WORDS: usize = 20483;
+
+// The bytes of the largest file.
+const FILE_BYTES: usize = 34816;
 
 fn put(pool: &mut [u16], at: usize, word: u16) {
     if at < pool.len() {
@@ -51,22 +62,57 @@ fn each_call(pool: &mut [u16]) {
     call(pool, &mut lent, b"G 5 1 1 0 9 0 9 0 9");
 }
 
+fn say(outcome: Outcome) {
+    let mut out = [0u8; LINE_BYTES];
+    let n = print_outcome(outcome, &mut out);
+    io::write_all(STDOUT_FILENO, &out[..n]);
+}
+
+fn write_all_doors(pool: &[u16]) {
+    let mut bytes = [0u8; FILE_BYTES];
+    let written = write(pool, 0, 65535, &mut bytes);
+    match written {
+        Written::Length(_) => say(Outcome::Done),
+        Written::Refused(fault) => say(Outcome::Refused(fault)),
+    }
+}
+
+fn match_empty(pool: &[u16]) {
+    let mut empty = [0u16; 13];
+    start(&mut empty);
+    let mut file = [0u8; 512];
+    write(&empty, 0, 65535, &mut file);
+    let matched = match_file(pool, &file);
+    match matched {
+        Matched::Equal => say(Outcome::Done),
+        Matched::Differs(_) => say(Outcome::Done),
+        Matched::Refused(fault) => say(Outcome::Refused(fault)),
+    }
+}
+
+// Every call but start and load, which walk nothing.
+fn all_calls(pool: &mut [u16]) {
+    each_call(pool);
+    write_all_doors(pool);
+    match_empty(pool);
+}
+
 fn main() {
     let mut wide = [0u16; WORDS];
     every_link_one(&mut wide);
     header(&mut wide, 2048);
-    each_call(&mut wide);
+    all_calls(&mut wide);
 
     let mut three = [0u16; 33];
     header(&mut three, 3);
     link(&mut three, 3, 4, 2, 3);
     link(&mut three, 13, 14, 3, 1);
     link(&mut three, 23, 24, 1, 2);
-    each_call(&mut three);
+    all_calls(&mut three);
 
     let mut two = [0u16; WORDS];
     header(&mut two, 2048);
     link(&mut two, 3, 4, 2, 2);
     link(&mut two, 13, 14, 1, 1);
-    each_call(&mut two);
+    all_calls(&mut two);
 }
