@@ -17,8 +17,8 @@ struct Place {
 
 [[noreturn]] void differ(Engine &engine, const Place &place, const std::string &what)
 {
-    fail(std::string(engine.name()) + " doesn't answer as scan: " + place.load.name + ", " + std::to_string(place.load.grants.size()) +
-         " grants, " + place.when + ", " + what);
+    const std::string size = std::to_string(place.load.grants.size()) + " grants";
+    fail(std::string(engine.name()) + " doesn't answer as scan: " + place.load.name + ", " + size + ", " + place.when + ", " + what);
 }
 
 void compare_decide(Engine &scan, Engine &engine, const Place &place, size_t question)

@@ -219,8 +219,8 @@ Box pinned(Random &random, Box box)
     return box;
 }
 
-// Against the tree: half the boxes are equal, the others agree with them in the leading twelve bits of each value, so that nothing is
-// cut off before the last levels.
+// Against the tree: half the boxes are equal, the others agree with them in the leading twelve bits of each value, so that hardly
+// a region is left out before the last levels.
 Load clustered(Random &random, size_t size)
 {
     Load load;

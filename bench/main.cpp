@@ -1,5 +1,5 @@
-// The benchmark: the library and other ways to do its work, on the same loads. Tables go to the output, progress to the error output.
-// docs/BENCHMARK.md describes it.
+// The benchmark: the library and other ways to do its work, on the same loads. docs/BENCHMARK.md describes it.
+// Tables go to the output, progress to the error output.
 #include "compare.hpp"
 #include "fail.hpp"
 #include "loads.hpp"
@@ -30,6 +30,14 @@ uint64_t number_in(const char *text)
     return number;
 }
 
+size_t size_in(const char *text)
+{
+    uint64_t size = number_in(text);
+    if (size == 0 || size > MOST_GRANTS)
+        show_usage();
+    return size;
+}
+
 Options read_options(char **arguments)
 {
     Options options;
@@ -40,10 +48,8 @@ Options read_options(char **arguments)
         else if (argument == "--seed")
             options.seed = number_in(*++arguments);
         else if (argument == "--n")
-            options.size = number_in(*++arguments);
+            options.size = size_in(*++arguments);
         else
-            show_usage();
-        if (options.size > MOST_GRANTS)
             show_usage();
     }
     return options;

@@ -18,15 +18,11 @@ bool DigitalTree::way_down(const Grant &grant, size_t &link) const
                                   box.doors.to,   box.quarters.to, grant.number};
     const unsigned most = pool[CAPACITY];
     link = ROOT;
-    for (unsigned level = 0, axis = 0, bit = 15; pool[link] != 0; level++) {
+    for (unsigned level = 0; pool[link] != 0; level++) {
         if (pool[link] > most || level == LEVELS || level == most)
             return false;
-        unsigned side = point[axis] >> bit & 1; // 0: LEFT, 1: RIGHT
+        unsigned side = point[level % AXES] >> (15 - level / AXES) & 1; // 0: LEFT, 1: RIGHT
         link = place_of(pool[link]) + side;
-        if (++axis == AXES) {
-            axis = 0;
-            bit--;
-        }
     }
     unsigned free = pool[FREE_HEAD];
     return free <= most && (free == 0 || pool[place_of(free) + LEFT] <= most);
@@ -38,7 +34,8 @@ void DigitalTree::insert(const Grant &grant, size_t link)
     unsigned cell = pool[FREE_HEAD];
     uint16_t *at = &pool[place_of(cell)];
     pool[FREE_HEAD] = at[LEFT];
-    const uint16_t words[CELL_WORDS] = {0, 0, grant.number, static_cast<uint16_t>(grant.rank * 2 + grant.kind), box.staff.from, box.staff.to,
+    const uint16_t rank_kind = static_cast<uint16_t>(grant.rank * 2 + grant.kind);
+    const uint16_t words[CELL_WORDS] = {0, 0, grant.number, rank_kind, box.staff.from, box.staff.to,
                                         box.doors.from, box.doors.to, box.quarters.from, box.quarters.to};
     std::copy_n(words, CELL_WORDS, at);
     pool[link] = static_cast<uint16_t>(cell);

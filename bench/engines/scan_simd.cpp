@@ -97,10 +97,9 @@ private:
     void put(size_t i, const Grant &grant)
     {
         const Box &box = grant.box;
-        const uint16_t fields[FIELDS] = {grant.number,   static_cast<uint16_t>(grant.rank * 2 + grant.kind),
-                                         box.staff.from, box.staff.to,
-                                         box.doors.from, box.doors.to,
-                                         box.quarters.from, box.quarters.to};
+        const uint16_t rank_kind = static_cast<uint16_t>(grant.rank * 2 + grant.kind);
+        const uint16_t fields[FIELDS] = {grant.number, rank_kind, box.staff.from, box.staff.to,
+                                         box.doors.from, box.doors.to, box.quarters.from, box.quarters.to};
         for (size_t field = 0; field < FIELDS; field++)
             columns[field][i] = fields[field];
     }
