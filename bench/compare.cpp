@@ -79,9 +79,11 @@ void compare_refusals(Engine &engine, const Load &load)
         differ(engine, place, "a number revoked that is not live");
 }
 
+// Into an empty engine, so that a load which does nothing is noticed afterwards.
 void compare_load(Engine &engine, const Load &load, const Bytes &file)
 {
     const Place place{load, "files"};
+    engine.start(load.grants.size());
     Bytes damaged = file;
     damaged[file.size() / 2] ^= 1;
     if (engine.files()->load(damaged.data(), damaged.size()) != 12)
