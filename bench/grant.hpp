@@ -1,0 +1,57 @@
+// Grants, and what is asked of them (document 01, "The plain book").
+#pragma once
+
+#include <cstddef>
+#include <cstdint>
+#include <cstring>
+
+constexpr size_t MOST_GRANTS = 2048;
+
+// A range; both ends belong to it.
+struct Span {
+    uint16_t from, to;
+};
+
+struct Box {
+    Span staff, doors, quarters;
+};
+
+// In memory as in a record of the file, but for the order of the bytes.
+struct Grant {
+    uint16_t number;
+    uint8_t rank, kind; // kind: 0 bars, 1 opens
+    Box box;
+};
+static_assert(sizeof(Grant) == 16, "no bytes between the fields");
+
+struct Point {
+    uint16_t staff, door, quarter;
+};
+
+constexpr Span EVERY{0, 65535};
+
+inline bool overlap(Span a, Span b)
+{
+    return a.from <= b.to && a.to >= b.from;
+}
+
+inline bool overlap(const Box &a, const Box &b)
+{
+    return overlap(a.staff, b.staff) && overlap(a.doors, b.doors) && overlap(a.quarters, b.quarters);
+}
+
+inline Box box_of(Point point)
+{
+    return {{point.staff, point.staff}, {point.door, point.door}, {point.quarter, point.quarter}};
+}
+
+// Whether a decides before b: the higher rank, at equal rank the lower number.
+inline bool decides_before(const Grant &a, const Grant &b)
+{
+    return a.rank > b.rank || (a.rank == b.rank && a.number < b.number);
+}
+
+inline bool same(const Grant &a, const Grant &b)
+{
+    return memcmp(&a, &b, sizeof a) == 0;
+}
