@@ -4,7 +4,7 @@ ghost use mathlib.Core.Path.{_≡_};
 ghost use mathlib.Core.Bool.{true};
 ghost use Prim.Native.Nat.{_-_, _<_, _≤_};
 ghost use lib.ListN.{length};
-ghost use Rattle.geometry.specs.Axis.{axes};
+ghost use Rattle.geometry.specs.Axis.{axes, axisOf, axisAfter};
 ghost use Rattle.geometry.specs.Levels.{levels};
 ghost use Rattle.geometry.specs.Region.{Shape, narrow, meets};
 ghost use Rattle.geometry.specs.SearchRange.{OneSided};
@@ -12,9 +12,9 @@ ghost use Rattle.adt.specs.Search.{meet, visitBy, enter, search};
 ghost use Rattle.adt.specs.SearchMemory.{searchIn, Fresh, Ready, Stands};
 use crate::node::is_hit;
 use geometry::axis::LEVELS;
-use geometry::axis::STAFF_FROM;
+use geometry::axis::NUMBER;
 use geometry::axis::TOP;
-use geometry::axis::axis_of;
+use geometry::axis::axis_after;
 use geometry::region::Region;
 use geometry::region::lower_end;
 use geometry::region::meets_range;
@@ -91,12 +91,12 @@ fn visit(
     hits: &mut HitCells,
     tally: &mut Tally,
 ) -> bool
-    requires { ⌜ Ready (now pool) cells (now hits) (now tally) × (below ≤ levels) × (0 < k) × (k ≤ cells) × OneSided (now range) × Shape father × (halved < axes) × (meets (narrow father halved low high) (now range) ≡ true) ⌝ }
+    requires { ⌜ Ready (now pool) cells (now hits) (now tally) × (below ≤ levels) × (0 < k) × (k ≤ cells) × OneSided (now range) × Shape father × (halved < axes) × (axisAfter halved ≡ axisOf (levels - below)) × (meets (narrow father halved low high) (now range) ≡ true) ⌝ }
     ensures { λ r. ⌜ Stands cells r (now (hits .exit)) (now (tally .exit)) (visitBy (now (pool .entry)) cells (now (range .entry)) (enter (now (pool .entry)) cells (now (range .entry)) below) (record { level = levels - below; link = link }) k (narrow father halved low high) (searchIn true (now (hits .entry)) (now (tally .entry)))) ⌝ }
 {
     let region = narrow(father, halved, low, high);
     let level = LEVELS - below;
-    let axis = axis_of(level);
+    let axis = axis_after(halved);
     if !test(pool, cells, k, level, link, range, hits, tally) {
         return false;
     }
@@ -149,7 +149,7 @@ fn enter(
     hits: &mut HitCells,
     tally: &mut Tally,
 ) -> bool
-    requires { ⌜ Ready (now pool) cells (now hits) (now tally) × (below ≤ levels) × (link < length (now pool)) × OneSided (now range) × Shape region × (axis < axes) × (meets region (now range) ≡ true) ⌝ }
+    requires { ⌜ Ready (now pool) cells (now hits) (now tally) × (below ≤ levels) × (link < length (now pool)) × OneSided (now range) × Shape region × (axis ≡ axisOf (levels - below)) × (meets region (now range) ≡ true) ⌝ }
     ensures { λ r. ⌜ Stands cells r (now (hits .exit)) (now (tally .exit)) (enter (now (pool .entry)) cells (now (range .entry)) below link (narrow region axis low high) (searchIn true (now (hits .entry)) (now (tally .entry)))) ⌝ }
 {
     let k = wide(pool[link]);
@@ -213,7 +213,7 @@ pub fn search(
         LEVELS,
         k,
         ROOT,
-        STAFF_FROM,
+        NUMBER,
         0,
         TOP,
         region,

@@ -32,7 +32,7 @@ row-ends (x ∷ y ∷ []) e = refl
 row-ends (x ∷ y ∷ z ∷ l) e = absurd (omega arith)
 
 -- the root's own range changes nothing
-pub narrow-root : narrow rootRegion 0 0 (topOf 0) ≡ rootRegion
+pub narrow-root : narrow rootRegion 6 0 (topOf 6) ≡ rootRegion
 unfolding rootRegion countFrom
 narrow-root = refl
 

@@ -1,6 +1,6 @@
 // The axes, the levels and the width of a coordinate. Each is named here alone; specs/Axis, Levels and Width say the same.
 ghost use mathlib.Core.Path.{_≡_};
-ghost use Rattle.geometry.specs.Axis.{axes, axisOf};
+ghost use Rattle.geometry.specs.Axis.{axes, axisOf, axisAfter};
 ghost use Prim.Native.Nat.{_<_};
 
 pub const AXES: usize = 7;
@@ -29,4 +29,12 @@ pub fn axis_of(level: usize) -> usize
     ensures { λ r. ⌜ (r ≡ axisOf level) × (r < axes) ⌝ }
 {
     level % AXES
+}
+
+// The axis that the next level halves.
+pub fn axis_after(axis: usize) -> usize
+    requires { ⌜ axis < axes ⌝ }
+    ensures { λ r. ⌜ r ≡ axisAfter axis ⌝ }
+{
+    if axis == NUMBER { 0 } else { axis + 1 }
 }

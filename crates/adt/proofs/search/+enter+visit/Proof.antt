@@ -1,10 +1,11 @@
 -- `search::visit` and `search::enter` meet their contracts. They call each other; what falls is twice the levels below, and one more
 -- in `visit`. Assumes nothing.
-use Prim.Native.Nat.{ℕ, _+_, _-_, _*_, _<_}
-use mathlib.Core.Path.{_≡_, refl, sym, subst}
+use Prim.Native.Nat.{ℕ, _+_, _-_, _*_, _<_, _≤_}
+use mathlib.Core.Path.{_≡_, refl, sym, subst, _∙_}
 use mathlib.Core.Bool.{true}
 use native.Mathlib.Omega.{arith}
 use borrow.Author.Tests.{not-true, not-false}
+use Rattle.geometry.specs.Axis.{axes, axisOf, axisAfter}
 use Rattle.geometry.specs.Levels.{levels}
 use Rattle.geometry.specs.Region.{Region, Shape, meets}
 use Rattle.geometry.proofs.NarrowLaws.{narrow-shape}
@@ -19,7 +20,7 @@ use Rattle.adt.proofs.search.visit.Reads as visit
 use Rattle.adt.proofs.search.visit.Kinds as visit-kinds
 use Rattle.adt.proofs.search.+enter+visit.Lts-visit as visit-lts
 use Rattle.adt.proofs.search.test.Reads as test-reads
-use Rattle.geometry.proofs.axis.axis_of.Reads as axis-of-reads
+use Rattle.geometry.proofs.axis.axis_after.Reads as axis-after-reads
 use Rattle.geometry.proofs.region.lower_end.Reads as lower-end-reads
 use Rattle.geometry.proofs.region.narrow.Reads as narrow-reads
 use Rattle.geometry.proofs.region.upper_start.Reads as upper-start-reads
@@ -50,7 +51,13 @@ abbrev enter-calls : ℕ → enter-lts.Claims
 enter-calls t = (wide-reads.Asked, wide-reads.Learnt, visit-below t, visit.Post)
 
 abbrev visit-calls : ℕ → visit-lts.Claims
-visit-calls t = (narrow-reads.Asked, narrow-reads.Learnt, axis-of-reads.Asked, axis-of-reads.Learnt, test-reads.Asked, test-reads.Learnt, place-of-reads.Asked, place-of-reads.Learnt, lower-end-reads.Asked, lower-end-reads.Learnt, enter-below t, enter.Post, upper-start-reads.Asked, upper-start-reads.Learnt)
+visit-calls t = (narrow-reads.Asked, narrow-reads.Learnt, axis-after-reads.Asked, axis-after-reads.Learnt, test-reads.Asked, test-reads.Learnt, place-of-reads.Asked, place-of-reads.Learnt, lower-end-reads.Asked, lower-end-reads.Learnt, enter-below t, enter.Post, upper-start-reads.Asked, upper-start-reads.Learnt)
+
+axis-is : {a : ℕ} (level : ℕ) → a ≡ axisOf level → a < axes
+axis-is level e = omega (arith, e)
+
+axis-next : {a : ℕ} (n : ℕ) → a ≡ axisOf (levels - n) → ¬ (n ≡ 0) → n ≤ levels → axisAfter a ≡ axisOf (levels - (n - 1))
+axis-next n e some few = omega (arith, e, some, few)
 
 enter-mul-wide : (t : ℕ) → enter-lts.Need-mul-wide (enter-calls t) (enter-at t) enter.Post
 enter-mul-wide t c = search needs
@@ -66,14 +73,14 @@ enter-returns t c =
     let start = c .before .before .before .before in
     let a = start .args in
     let p = start .pre .1 in
-    son-blank (a .pool .now) (a .cells) (a .range .now) (a .below) (a .link) (c .before .wide .ensures .0) (a .region) (a .axis) (a .low) (a .high) (p .4) (p .5) (p .6) (p .0 .counted) (c .if1 .taken)
+    son-blank (a .pool .now) (a .cells) (a .range .now) (a .below) (a .link) (c .before .wide .ensures .0) (a .region) (a .axis) (a .low) (a .high) (p .4) (axis-is (levels - a .below) (p .5)) (p .6) (p .0 .counted) (c .if1 .taken)
 
 enter-returns-2 : (t : ℕ) → enter-lts.Need-returns-2 (enter-calls t) (enter-at t) enter.Post
 enter-returns-2 t c =
     let start = c .before .before .before .before .before in
     let a = start .args in
     let p = start .pre .1 in
-    son-deep (a .pool .now) (a .cells) (a .range .now) (a .below) (a .link) (c .before .before .wide .ensures .0) (a .region) (a .axis) (a .low) (a .high) (p .4) (p .5) (p .6) (p .0 .counted) (c .before .if1 .left) (c .if2 .taken)
+    son-deep (a .pool .now) (a .cells) (a .range .now) (a .below) (a .link) (c .before .before .wide .ensures .0) (a .region) (a .axis) (a .low) (a .high) (p .4) (axis-is (levels - a .below) (p .5)) (p .6) (p .0 .counted) (c .before .if1 .left) (c .if2 .taken)
 
 enter-mul-if3 : (t : ℕ) → enter-lts.Need-mul-if3 (enter-calls t) (enter-at t) enter.Post
 enter-mul-if3 t c = search needs
@@ -89,7 +96,7 @@ enter-returns-3 t c =
     let start = c .before .before .before .before .before .before .before in
     let a = start .args in
     let p = start .pre .1 in
-    son-before (a .pool .now) (a .cells) (a .range .now) (a .below) (a .link) (c .before .before .before .before .wide .ensures .0) (a .region) (a .axis) (a .low) (a .high) (p .4) (p .5) (p .6) (p .0 .counted) (c .before .before .before .if1 .left) (c .before .before .if2 .left) (c .if3 .taken)
+    son-before (a .pool .now) (a .cells) (a .range .now) (a .below) (a .link) (c .before .before .before .before .wide .ensures .0) (a .region) (a .axis) (a .low) (a .high) (p .4) (axis-is (levels - a .below) (p .5)) (p .6) (p .0 .counted) (c .before .before .before .if1 .left) (c .before .before .if2 .left) (c .if3 .taken)
 
 enter-mul-if4 : (t : ℕ) → enter-lts.Need-mul-if4 (enter-calls t) (enter-at t) enter.Post
 enter-mul-if4 t c = search needs
@@ -105,14 +112,14 @@ enter-returns-4 t c =
     let start = c .before .before .before .before .before .before .before .before .before in
     let a = start .args in
     let p = start .pre .1 in
-    son-behind (a .pool .now) (a .cells) (a .range .now) (a .below) (a .link) (c .before .before .before .before .before .before .wide .ensures .0) (a .region) (a .axis) (a .low) (a .high) (p .4) (p .5) (p .6) (p .0 .counted) (c .before .before .before .before .before .if1 .left) (c .before .before .before .before .if2 .left) (c .before .before .if3 .left) (c .if4 .taken)
+    son-behind (a .pool .now) (a .cells) (a .range .now) (a .below) (a .link) (c .before .before .before .before .before .before .wide .ensures .0) (a .region) (a .axis) (a .low) (a .high) (p .4) (axis-is (levels - a .below) (p .5)) (p .6) (p .0 .counted) (c .before .before .before .before .before .if1 .left) (c .before .before .before .before .if2 .left) (c .before .before .if3 .left) (c .if4 .taken)
 
 enter-returns-5 : (t : ℕ) → enter-lts.Need-returns-5 (enter-calls t) (enter-at t) enter.Post
 enter-returns-5 t c =
     let start = c .before .before .before .before .before .before .before .before .before .before in
     let a = start .args in
     let p = start .pre .1 in
-    son-past (a .pool .now) (a .cells) (a .range .now) (a .below) (a .link) (c .before .before .before .before .before .before .before .wide .ensures .0) (a .region) (a .axis) (a .low) (a .high) (p .4) (p .5) (p .6) (p .0 .counted) (c .before .before .before .before .before .before .if1 .left) (c .before .before .before .before .before .if2 .left) (c .before .before .before .if3 .left) (c .before .if4 .left) (c .if5 .taken)
+    son-past (a .pool .now) (a .cells) (a .range .now) (a .below) (a .link) (c .before .before .before .before .before .before .before .wide .ensures .0) (a .region) (a .axis) (a .low) (a .high) (p .4) (axis-is (levels - a .below) (p .5)) (p .6) (p .0 .counted) (c .before .before .before .before .before .before .if1 .left) (c .before .before .before .before .before .if2 .left) (c .before .before .before .if3 .left) (c .before .if4 .left) (c .if5 .taken)
 
 enter-sub-visit : (t : ℕ) → enter-lts.Need-sub-visit (enter-calls t) (enter-at t) enter.Post
 enter-sub-visit t c = search needs
@@ -122,15 +129,15 @@ enter-visit-requires t c κs =
     let start = c .before .before .before .before .before .before .before .before .before .before .before .before in
     let a = start .args in
     let p = start .pre .1 in
-    let met = son-meets (a .pool .now) (a .cells) (a .range .now) (a .below) (a .link) (c .before .before .before .before .before .before .before .before .before .wide .ensures .0) (a .region) (a .axis) (a .low) (a .high) (p .4) (p .5) (p .6) (c .before .before .before .before .before .if3 .left) (c .before .before .before .if4 .left) in
-    (omega arith, (p .0, omega arith, omega arith, c .before .before .if5 .left, p .3, p .4, p .5, met))
+    let met = son-meets (a .pool .now) (a .cells) (a .range .now) (a .below) (a .link) (c .before .before .before .before .before .before .before .before .before .wide .ensures .0) (a .region) (a .axis) (a .low) (a .high) (p .4) (axis-is (levels - a .below) (p .5)) (p .6) (c .before .before .before .before .before .if3 .left) (c .before .before .before .if4 .left) in
+    (omega arith, (p .0, omega arith, omega arith, c .before .before .if5 .left, p .3, p .4, axis-is (levels - a .below) (p .5), axis-next (a .below) (p .5) (omega arith) (p .1), met))
 
 enter-returns-6 : (t : ℕ) → enter-lts.Need-returns-6 (enter-calls t) (enter-at t) enter.Post
 enter-returns-6 t c =
     let start = c .before .before .before .before .before .before .before .before .before .before .before .before .before in
     let a = start .args in
     let p = start .pre .1 in
-    son-visited (a .pool .now) (a .cells) (a .range .now) (a .below) (a .link) (c .before .before .before .before .before .before .before .before .before .before .wide .ensures .0) (a .region) (a .axis) (a .low) (a .high) (p .4) (p .5) (p .6) (p .0 .counted) (c .before .before .before .before .before .before .before .before .before .if1 .left) (c .before .before .before .before .before .before .before .before .if2 .left) (c .before .before .before .before .before .before .if3 .left) (c .before .before .before .before .if4 .left) (c .before .before .before .if5 .left) (c .visit .ensures)
+    son-visited (a .pool .now) (a .cells) (a .range .now) (a .below) (a .link) (c .before .before .before .before .before .before .before .before .before .before .wide .ensures .0) (a .region) (a .axis) (a .low) (a .high) (p .4) (axis-is (levels - a .below) (p .5)) (p .6) (p .0 .counted) (c .before .before .before .before .before .before .before .before .before .if1 .left) (c .before .before .before .before .before .before .before .before .if2 .left) (c .before .before .before .before .before .before .if3 .left) (c .before .before .before .before .if4 .left) (c .before .before .before .if5 .left) (c .visit .ensures)
 
 visit-narrow-requires : (t : ℕ) → visit-lts.Need-narrow-requires (visit-calls t) (visit-at t) visit.Post
 visit-narrow-requires t c κs = search needs
@@ -138,8 +145,8 @@ visit-narrow-requires t c κs = search needs
 visit-sub-level : (t : ℕ) → visit-lts.Need-sub-level (visit-calls t) (visit-at t) visit.Post
 visit-sub-level t c = search needs
 
-visit-axis-of-requires : (t : ℕ) → visit-lts.Need-axis-of-requires (visit-calls t) (visit-at t) visit.Post
-visit-axis-of-requires t c κs = search needs
+visit-axis-after-requires : (t : ℕ) → visit-lts.Need-axis-after-requires (visit-calls t) (visit-at t) visit.Post
+visit-axis-after-requires t c κs = search needs
 
 visit-test-requires : (t : ℕ) → visit-lts.Need-test-requires (visit-calls t) (visit-at t) visit.Post
 visit-test-requires t c κs = search needs
@@ -184,8 +191,8 @@ visit-enter-requires t c κs =
     let axed = tested .before .before .before in
     let own = axed .before in
     let shape = subst Shape (sym (own .narrow .ensures)) (narrow-shape (a .father) (a .halved) (a .low) (a .high) (p .5) (p .6)) in
-    let met = subst (λ (g : Region). meets g (a .range .now) ≡ true) (sym (own .narrow .ensures)) (p .7) in
-    (omega arith, (record { few = p .0 .few; long = p .0 .long; counted = tested .test .ensures .counted }, p .1, omega (arith, c .before .before .before .place-of .ensures .1, p .3, p .0 .long), p .4, shape, axed .axis-of .ensures .1, met))
+    let met = subst (λ (g : Region). meets g (a .range .now) ≡ true) (sym (own .narrow .ensures)) (p .8) in
+    (omega arith, (record { few = p .0 .few; long = p .0 .long; counted = tested .test .ensures .counted }, p .1, omega (arith, c .before .before .before .place-of .ensures .1, p .3, p .0 .long), p .4, shape, axed .axis-after .ensures ∙ p .7, met))
 
 visit-returns-2 : (t : ℕ) → visit-lts.Need-returns-2 (visit-calls t) (visit-at t) visit.Post
 visit-returns-2 t c =
@@ -197,7 +204,7 @@ visit-returns-2 t c =
     let own = axed .before in
     let shape = subst Shape (sym (own .narrow .ensures)) (narrow-shape (a .father) (a .halved) (a .low) (a .high) (p .5) (p .6)) in
     visit-in (a .pool .now) (a .cells) (a .range .now) (a .below) (record { level = levels - a .below; link = a .link }) (a .k) _ _ (own .narrow .ensures)
-    (visit-left-cut (a .pool .now) (a .cells) (a .range .now) (a .below) (record { level = levels - a .below; link = a .link }) (a .k) _ _ shape (axed .axis-of .ensures .0) (axed .axis-of .ensures .1) refl refl (tested .test .ensures) (not-false _ (c .before .before .before .before .before .before .before .before .if1 .left)) (c .before .before .before .before .before .place-of .ensures .0) (c .before .before .before .before .lower-end .ensures) (c .before .enter .ensures) (not-true _ (c .if2 .taken)))
+    (visit-left-cut (a .pool .now) (a .cells) (a .range .now) (a .below) (record { level = levels - a .below; link = a .link }) (a .k) _ _ shape (axed .axis-after .ensures ∙ p .7) (axis-is (levels - a .below) (axed .axis-after .ensures ∙ p .7)) refl refl (tested .test .ensures) (not-false _ (c .before .before .before .before .before .before .before .before .if1 .left)) (c .before .before .before .before .before .place-of .ensures .0) (c .before .before .before .before .lower-end .ensures) (c .before .enter .ensures) (not-true _ (c .if2 .taken)))
 
 visit-place-of-requires-2 : (t : ℕ) → visit-lts.Need-place-of-requires-2 (visit-calls t) (visit-at t) visit.Post
 visit-place-of-requires-2 t c κs = search needs
@@ -214,8 +221,8 @@ visit-enter-requires-2 t c κs =
     let axed = tested .before .before .before in
     let own = axed .before in
     let shape = subst Shape (sym (own .narrow .ensures)) (narrow-shape (a .father) (a .halved) (a .low) (a .high) (p .5) (p .6)) in
-    let met = subst (λ (g : Region). meets g (a .range .now) ≡ true) (sym (own .narrow .ensures)) (p .7) in
-    (omega arith, (record { few = p .0 .few; long = p .0 .long; counted = c .before .before .before .before .before .enter .ensures .counted }, p .1, omega (arith, c .before .before .before .place-of2 .ensures .1, p .3, p .0 .long), p .4, shape, axed .axis-of .ensures .1, met))
+    let met = subst (λ (g : Region). meets g (a .range .now) ≡ true) (sym (own .narrow .ensures)) (p .8) in
+    (omega arith, (record { few = p .0 .few; long = p .0 .long; counted = c .before .before .before .before .before .enter .ensures .counted }, p .1, omega (arith, c .before .before .before .place-of2 .ensures .1, p .3, p .0 .long), p .4, shape, axed .axis-after .ensures ∙ p .7, met))
 
 visit-returns-3 : (t : ℕ) → visit-lts.Need-returns-3 (visit-calls t) (visit-at t) visit.Post
 visit-returns-3 t c =
@@ -227,7 +234,7 @@ visit-returns-3 t c =
     let own = axed .before in
     let shape = subst Shape (sym (own .narrow .ensures)) (narrow-shape (a .father) (a .halved) (a .low) (a .high) (p .5) (p .6)) in
     visit-in (a .pool .now) (a .cells) (a .range .now) (a .below) (record { level = levels - a .below; link = a .link }) (a .k) _ _ (own .narrow .ensures)
-    (visit-whole (a .pool .now) (a .cells) (a .range .now) (a .below) (record { level = levels - a .below; link = a .link }) (a .k) _ _ shape (axed .axis-of .ensures .0) (axed .axis-of .ensures .1) refl refl (tested .test .ensures) (not-false _ (c .before .before .before .before .before .before .before .before .before .before .before .before .before .if1 .left)) (c .before .before .before .before .before .before .before .before .before .before .place-of .ensures .0) (c .before .before .before .before .before .before .before .before .before .lower-end .ensures) (c .before .before .before .before .before .before .enter .ensures) (not-false _ (c .before .before .before .before .before .if2 .left)) (c .before .before .before .before .place-of2 .ensures .0) (c .before .before .before .upper-start .ensures) (c .enter2 .ensures))
+    (visit-whole (a .pool .now) (a .cells) (a .range .now) (a .below) (record { level = levels - a .below; link = a .link }) (a .k) _ _ shape (axed .axis-after .ensures ∙ p .7) (axis-is (levels - a .below) (axed .axis-after .ensures ∙ p .7)) refl refl (tested .test .ensures) (not-false _ (c .before .before .before .before .before .before .before .before .before .before .before .before .before .if1 .left)) (c .before .before .before .before .before .before .before .before .before .before .place-of .ensures .0) (c .before .before .before .before .before .before .before .before .before .lower-end .ensures) (c .before .before .before .before .before .before .enter .ensures) (not-false _ (c .before .before .before .before .before .if2 .left)) (c .before .before .before .before .place-of2 .ensures .0) (c .before .before .before .upper-start .ensures) (c .enter2 .ensures))
 
 pub +enter+visit-spec : {M : Type 1} → statement M
 +enter+visit-spec = close μ-enter μ-visit (λ t. enter-lts.spec (enter-calls t)
@@ -255,7 +262,7 @@ pub +enter+visit-spec : {M : Type 1} → statement M
     visit.Post
     (visit-narrow-requires t)
     (visit-sub-level t)
-    (visit-axis-of-requires t)
+    (visit-axis-after-requires t)
     (visit-test-requires t)
     (visit-returns t)
     (visit-mul-from t)

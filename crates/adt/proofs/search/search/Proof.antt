@@ -6,14 +6,14 @@ use Rattle.geometry.proofs.NarrowLaws.{narrow-root}
 use Rattle.geometry.specs.Region.{Region, Shape, rootRegion, narrow, meets}
 use lib.Dec.{lit<, lit≤}
 use native.Mathlib.Omega.{arith}
-use mathlib.Core.Path.{_≡_, sym, ap, subst, _∙_}
+use mathlib.Core.Path.{_≡_, refl, sym, ap, subst, _∙_}
 use borrow.Author.Tests.{not-true, not-false}
 use borrow.Author.Needs.{needs}
 use Rattle.adt.proofs.search.search.Statement.{statement}
 use Rattle.adt.proofs.search.search.Tie as tie
 
-own-root : {g : Region} → g ≡ rootRegion → narrow g 0 0 65535 ≡ rootRegion
-own-root e = ap (λ (g : Region). narrow g 0 0 65535) e ∙ narrow-root
+own-root : {g : Region} → g ≡ rootRegion → narrow g 6 0 65535 ≡ rootRegion
+own-root e = ap (λ (g : Region). narrow g 6 0 65535) e ∙ narrow-root
 
 shared-slice-read-wide : tie.Need-shared-slice-read-wide
 shared-slice-read-wide c = search needs
@@ -48,7 +48,7 @@ visit-requires c κs =
     let e = rooted .root-region .ensures in
     let m = sym (c .before .before .before .before .meets-range .ensures) ∙ not-false _ (c .before .before .before .if2 .left) in
     let own = own-root e in
-    (record { few = p .few; long = p .long; counted = fresh-counted (start .args .range .now) p }, lit≤ tt, omega arith, c .before .before .if3 .left, start .pre .1, subst Shape (sym e) root-shape, lit< tt, subst (λ (g : Region). meets g (start .args .range .now) ≡ true) (e ∙ sym own) m)
+    (record { few = p .few; long = p .long; counted = fresh-counted (start .args .range .now) p }, lit≤ tt, omega arith, c .before .before .if3 .left, start .pre .1, subst Shape (sym e) root-shape, lit< tt, refl, subst (λ (g : Region). meets g (start .args .range .now) ≡ true) (e ∙ sym own) m)
 
 returns-4 : tie.Need-returns-4
 returns-4 c =
