@@ -88,6 +88,14 @@ calls =
     ∷ list (box 0 65535 0 65535 0 65535) (1 ∷ 1 ∷ 1 ∷ 1 ∷ [])
     ∷ []
 
+-- two grants of one rank that overlap
+abbrev rivals : List Call
+rivals =
+    grant (record { number = 8; rank = 10; kind = 1; bounds = box 0 9 0 9 0 9 })
+    ∷ grant (record { number = 4; rank = 10; kind = 0; bounds = box 0 9 0 9 0 9 })
+    ∷ decide 9 9 9
+    ∷ []
+
 abbrev numbers : List Told → List ℕ
 numbers [] = []
 numbers (t ∷ ts) = say.told (t .answer) ++ t .lent ++ numbers ts
@@ -128,7 +136,7 @@ cases =
     ∷ record { given = numbers (told wordsStep fresh calls); wanted = numbers (told bookStep (emptyBook 3) calls) }
     -- the book's answers to it, by hand: an inner cell (7) is revoked and nothing behind it is lost; at equal doors 3 outranks 7
     ∷ record {
-      given = numbers (told bookStep (emptyBook 3) (take 9 calls));
+      given = numbers (told bookStep (emptyBook 3) calls);
       wanted =
           0 ∷ 0 ∷ 0 ∷ 5
           ∷ 8 ∷ 3 ∷ 1 ∷ 1
@@ -136,8 +144,19 @@ cases =
           ∷ 0 ∷ 2 ∷ 3 ∷ 20 ∷ 0 ∷ 150 ∷ 150 ∷ 12 ∷ 12 ∷ 0 ∷ 65535
           ∷ 0
           ∷ 7
+          ∷ 0 ∷ 2 ∷ 3 ∷ 20 ∷ 0 ∷ 150 ∷ 150 ∷ 12 ∷ 12 ∷ 0 ∷ 65535
+          ∷ 0 ∷ 1 ∷ 9 ∷ 10 ∷ 1 ∷ 40000 ∷ 40001 ∷ 41 ∷ 50 ∷ 0 ∷ 9
+          ∷ 0 ∷ 2 ∷ 1
+          ∷ 3
+          ∷ 4
+          ∷ 2
+          ∷ 0
+          ∷ 6
+          ∷ 0 ∷ 3 ∷ 3 ∷ 7 ∷ 9 ∷ 1
           ∷ [];
     }
+    -- at equal rank the lower number decides
+    ∷ record { given = numbers (told bookStep (emptyBook 3) rivals); wanted = 0 ∷ 0 ∷ 0 ∷ 2 ∷ 4 ∷ 10 ∷ 0 ∷ 0 ∷ 9 ∷ 0 ∷ 9 ∷ 0 ∷ 9 ∷ [] }
     -- the words after it: 7's cell 1 had the sons 3 and 9; 3, terminal on its left, took its place; 7 came again, behind 3, in cell 1
     ∷ record {
       given = after wordsStep fresh calls;
