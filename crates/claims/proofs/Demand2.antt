@@ -13,7 +13,6 @@ use mathlib.Core.Path.{_≡_, sym, ap, _∙_}
 use mathlib.Core.Bool.{cond}
 use mathlib.Core.List.{List, [], _∷_, map, List·Memᴰ, Memᴰ·map, Memᴰ·of-map, Memᴰ·cast}
 use lib.ListN.{length, getD, set, take}
-use Rattle.lists.proofs.TestLaws.{T-iff}
 use Rattle.lists.proofs.KeyLaws.{distinct-keys-keep}
 use Rattle.lists.proofs.SortLaws.{rises-keep, rises-map, rises-getD}
 use Rattle.model.specs.declared.Box.{Box}
@@ -26,14 +25,14 @@ use Rattle.model.specs.Box.{pointBox}
 use Rattle.model.specs.Overlap.{Overlap, overlaps}
 use Rattle.model.specs.Answer.{accepted, refusal, decisionAnswer}
 use Rattle.model.specs.Refusal.{Step}
-use Rattle.model.specs.Decide.{outranks, decisionOf, decideAmong}
+use Rattle.model.specs.Decide.{decisionOf, decideAmong}
 use Rattle.model.specs.Call.{Call}
 use Rattle.model.specs.Values.{byteValues, Below, CallsFit}
 use Rattle.model.specs.Book.{Book, overlapping, bookDecide, bookStep}
 use Rattle.model.specs.Histories.{Told, told}
 use Rattle.model.proofs.AnswerLaws.{decisionAnswer-injective}
 use Rattle.model.proofs.OverlapLaws.{overlapping-iff}
-use Rattle.model.proofs.DecideLaws.{decideAmong-none, Foremost, foremost-decides}
+use Rattle.model.proofs.DecideLaws.{yields-iff, decideAmong-none, Foremost, foremost-decides}
 use Rattle.model.proofs.BookLaws.{bookList-writes}
 use Rattle.geometry.proofs.SearchRangeLaws.{box-hits-iff}
 use Rattle.pool.specs.Capacity.{wrongLength, wrongPool}
@@ -92,14 +91,15 @@ module _ {w : List ℕ} {b : Book} (h : Represents w b) where
     foremost-iff g = (
       (λ d. record {
         member = overlapping-iff q (b .live) g .1 (d .live, d .overlapping);
-        above = λ x m n. let both = overlapping-iff q (b .live) x .0 m in T-iff (outranks g x) .0 (d .first x (both .0) (both .1) n);
+        yield = λ x m. let both = overlapping-iff q (b .live) x .0 m in yields-iff x g .1 (d .highest x (both .0) (both .1), d .lowest x (both .0) (both .1));
       }),
       (λ f.
           let both = overlapping-iff q (b .live) g .0 (f .member) in
           record {
             live = both .0;
             overlapping = both .1;
-            first = λ x m o n. T-iff (outranks g x) .1 (f .above x (overlapping-iff q (b .live) x .1 (m, o)) n);
+            highest = λ x m o. yields-iff x g .0 (f .yield x (overlapping-iff q (b .live) x .1 (m, o))) .0;
+            lowest = λ x m o. yields-iff x g .0 (f .yield x (overlapping-iff q (b .live) x .1 (m, o))) .1;
           }),
     )
 

@@ -32,7 +32,7 @@ use Rattle.model.specs.Overlap.{Overlap}
 use Rattle.model.specs.Grant.{touches}
 use Rattle.model.specs.Answer.{Answer, accepted, refused, refusal, decisionAnswer}
 use Rattle.model.specs.Refusal.{Step}
-use Rattle.model.specs.Decide.{outranks, decisionOf}
+use Rattle.model.specs.Decide.{decisionOf}
 use Rattle.model.specs.Call.{Request, Call}
 use Rattle.model.specs.Book.{Book, emptyBook, bookStep}
 use Rattle.geometry.specs.Point.{inside, pointOf}
@@ -102,11 +102,12 @@ pub record ListsOverlapping (gs : List Grant) (q : Box) (numbers : List ℕ) : T
   pub member : (n : ℕ) → List·Memᴰ n numbers ↔ ((g : Grant) × List·Memᴰ g gs × (g .number ≡ n) × Overlap (g .bounds) q)
   pub rising : (i j : ℕ) → i < j → j < length numbers → getD numbers i 0 < getD numbers j 0
 
--- the grant g of gs decides at the point: it overlaps it, and outranks every other that does
+-- the grant g of gs decides at the point: of those that overlap it none has a higher rank, and none of its rank a lower number
 pub record Decides (gs : List Grant) (q : Box) (g : Grant) : Type 0 where
   pub live : List·Memᴰ g gs
   pub overlapping : Overlap (g .bounds) q
-  pub first : (h : Grant) → List·Memᴰ h gs → Overlap (h .bounds) q → h ≢ g → T (outranks g h)
+  pub highest : (h : Grant) → List·Memᴰ h gs → Overlap (h .bounds) q → h .rank ≤ g .rank
+  pub lowest : (h : Grant) → List·Memᴰ h gs → Overlap (h .bounds) q → h .rank ≡ g .rank → g .number ≤ h .number
 
 -- match holds the pool w, whose live grants are given, against the file of doors and gs: equal exactly where the live grants touching
 -- the doors are gs, else the least number that is in one alone, or in both and unequal

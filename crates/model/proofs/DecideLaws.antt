@@ -1,15 +1,15 @@
 -- Who decides does not depend on the order of the grants, where their numbers differ.
---   Yields g h                 g does not outrank h: yields-refl, yields-trans, yields-both
+--   Yields g h                 g does not outrank h: yields-refl, yields-iff, yields-trans, yields-both
 --   outranks-yields, not-outranks-yields    the test of specs/Decide, by what it says of the two
 --   deciding-mem               the one that decides is one of them
 --   deciding-first             each of them yields to it
 --   decideAmong-perm           so the same decides in any order
 --   decideAmong-none           none decides exactly if there is none
---   Foremost g gs              g is one of them, and outranks every other
+--   Foremost g gs              g is one of them, and every one yields to it
 --   foremost-decides           which is that it decides
 -- Assumes nothing.
 use Prim.Native.Nat.{ℕ, _<_, _≤_}
-use mathlib.Core.Logic.{_↔_, _≢_}
+use mathlib.Core.Logic.{_↔_}
 use mathlib.Core.Path.{_≡_, refl, sym, ap, subst, _∙_}
 use mathlib.Core.Bool.{Bool, true, false, cond, _&&_, _||_, true≢false, false≢true}
 use mathlib.Core.List.{List, [], _∷_, map, List·Memᴰ, List·Memᴰ·head, List·Memᴰ·tail, List·Memᴰ·not-nil}
@@ -32,6 +32,18 @@ pub data Yields (g h : Grant) : Type 0 where
 
 pub yields-refl : (g : Grant) → Yields g g
 yields-refl g = yields-number refl (omega arith)
+
+-- which is that its rank is no higher, and at equal rank its number no lower
+pub yields-iff : (g h : Grant) → Yields g h ↔ ((g .rank ≤ h .rank) × (g .rank ≡ h .rank → h .number ≤ g .number))
+yields-iff g h = (to, λ both. from (both .0) (both .1) (ℕ-discrete (g .rank) (h .rank)))
+  where
+    to : Yields g h → (g .rank ≤ h .rank) × (g .rank ≡ h .rank → h .number ≤ g .number)
+    to (yields-rank a) = (omega arith, λ e. absurd (omega arith))
+    to (yields-number e n) = (omega arith, λ same. n)
+
+    from : g .rank ≤ h .rank → (g .rank ≡ h .rank → h .number ≤ g .number) → Dec (g .rank ≡ h .rank) → Yields g h
+    from le f (yes e) = yields-number e (f e)
+    from le f (no n) = yields-rank (omega (arith, le, n))
 
 pub yields-trans : {f g h : Grant} → Yields f g → Yields g h → Yields f h
 yields-trans (yields-rank a) (yields-rank b) = yields-rank (omega arith)
@@ -132,7 +144,7 @@ decideAmong-none (g ∷ gs) =
 
 pub record Foremost (g : Grant) (gs : List Grant) : Type 0 where
   pub member : List·Memᴰ g gs
-  pub above : (h : Grant) → List·Memᴰ h gs → h ≢ g → outranks g h ≡ true
+  pub yield : (h : Grant) → List·Memᴰ h gs → Yields h g
 
 module _ {gs : List Grant} (d : Distinct (map (λ g. g .number) gs)) where
   -- of two that yield to each other one is the other
@@ -142,18 +154,10 @@ module _ {gs : List Grant} (d : Distinct (map (λ g. g .number) gs)) where
   -- the one to which each of them yields
   module _ (first : Grant) (there : List·Memᴰ first gs) (yields : (h : Grant) → List·Memᴰ h gs → Yields h first) where
     foremost-first : (g : Grant) → Foremost g gs → first ≡ g
-    foremost-first g f = go (ℕ-discrete (first .number) (g .number))
-      where
-        go : Dec (first .number ≡ g .number) → first ≡ g
-        go (yes e) = distinct-key (λ g. g .number) d first g there (f .member) e
-        go (no n) = yields-one first g there (f .member) (outranks-yields g first (f .above first there (λ e. n (ap (λ (x : Grant). x .number) e)))) (yields g (f .member))
+    foremost-first g f = yields-one first g there (f .member) (f .yield first there) (yields g (f .member))
 
     first-foremost : Foremost first gs
-    first-foremost = record { member = there; above = λ h m n. go h m n (outranks first h) refl }
-      where
-        go : (h : Grant) → List·Memᴰ h gs → h ≢ first → (b : Bool) → outranks first h ≡ b → b ≡ true
-        go h m n true e = refl
-        go h m n false e = absurd (n (yields-one h first m there (yields h m) (not-outranks-yields first h e)))
+    first-foremost = record { member = there; yield = yields }
 
 pub foremost-decides : (gs : List Grant) → Distinct (map (λ g. g .number) gs) → (g : Grant) → Foremost g gs ↔ (decideAmong gs ≡ decisionOf (g .kind) g)
 unfolding decideAmong
