@@ -1,0 +1,6 @@
+-- Laws of what the desk shows.
+pub mod StandingLaws
+pub mod StandingWalkLaws
+pub mod HitScanLaws
+pub mod StandingCases
+pub mod StandingDecideLaws

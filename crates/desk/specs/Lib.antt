@@ -1,0 +1,3 @@
+-- What the program of the three levels shows beside the calls' answers.
+pub mod Standing
+pub mod StandingWalk

@@ -1,0 +1,10 @@
+// What the program of the three levels shows at a counter, beside the calls' answers: how far a grant stands against those that outrank it.
+// Nothing here reads or writes a file, and nothing is refused.
+pub mod overriding;
+
+// How far a grant decides where other grants touch the same door and quarter: for all its staff, for some, or for none.
+pub enum Standing {
+    Whole,
+    Partly,
+    Nowhere,
+}
