@@ -4,3 +4,5 @@ pub mod StandingWalkLaws
 pub mod HitScanLaws
 pub mod StandingCases
 pub mod StandingDecideLaws
+pub mod CalendarLaws
+pub mod CalendarCases
