@@ -6,3 +6,4 @@ pub mod StandingCases
 pub mod StandingDecideLaws
 pub mod CalendarLaws
 pub mod CalendarCases
+pub mod FaultTextCases

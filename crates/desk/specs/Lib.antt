@@ -3,3 +3,4 @@ pub mod Standing
 pub mod StandingWalk
 pub mod Calendar
 pub mod Moment
+pub mod FaultText
