@@ -22,7 +22,7 @@ pub const LINE_BYTES: usize = 12314;
 const MOST: usize = 2048;
 
 // Puts a byte at a place of the line, and answers the next place.
-fn put_byte(out: &mut [u8], at: usize, b: u8) -> usize
+pub fn put_byte(out: &mut [u8], at: usize, b: u8) -> usize
     requires { ⌜ at < length (now out) ⌝ }
     ensures { λ r. ⌜ Put (now (out .entry)) at (b ∷ []) r (now (out .exit)) ⌝ }
 {
@@ -30,7 +30,7 @@ fn put_byte(out: &mut [u8], at: usize, b: u8) -> usize
     at + 1
 }
 
-fn put_text(out: &mut [u8], at: usize, text: &[u8]) -> usize
+pub fn put_text(out: &mut [u8], at: usize, text: &[u8]) -> usize
     requires { ⌜ at + length (now text) ≤ length (now out) ⌝ }
     ensures { λ r. ⌜ Put (now (out .entry)) at (now (text .entry)) r (now (out .exit)) ⌝ }
 {
@@ -43,7 +43,7 @@ fn put_text(out: &mut [u8], at: usize, text: &[u8]) -> usize
 }
 
 // Puts a number in decimal: all digits but the last, then the last.
-fn put_number(out: &mut [u8], at: usize, n: usize) -> usize
+pub fn put_number(out: &mut [u8], at: usize, n: usize) -> usize
     requires { ⌜ at + length (numeral n) ≤ length (now out) ⌝ }
     ensures { λ r. ⌜ Put (now (out .entry)) at (numeral n) r (now (out .exit)) ⌝ }
 {
