@@ -14,12 +14,12 @@ use borrow.Author.Tests.{ltb-true, eqb-true}
 use Rattle.lists.specs.Tests.{keep}
 use Rattle.lists.proofs.TestLaws.{both-le, le-both, mem-keep, keep-mem}
 use Rattle.lists.proofs.DistinctLaws.{Distinct}
-use Rattle.lists.proofs.KeyLaws.{distinct-key, distinct-keys-keep}
+use Rattle.lists.proofs.KeyLaws.{distinct-keys-keep}
 use Rattle.model.specs.declared.Grant.{Grant}
 use Rattle.model.specs.Interval.{holds}
 use Rattle.model.specs.Box.{staffOf}
 use Rattle.model.specs.Decide.{outranks, decisionOf, decideAmong}
-use Rattle.model.proofs.DecideLaws.{Foremost, foremost-decides, not-outranks-yields, yields-both}
+use Rattle.model.proofs.DecideLaws.{Yields, yields-rank, yields-number, not-outranks-yields, Foremost, foremost-decides}
 use Rattle.desk.specs.declared.Standing.the-variants.{Whole, Nowhere}
 use Rattle.desk.specs.Standing.{HasStaff, Overridden, Stands, standing}
 use Rattle.desk.proofs.StandingLaws.{standing-stands}
@@ -39,12 +39,12 @@ outranks-above h g e = go (ltb (g .rank) (h .rank)) refl (eqb (h .rank) (g .rank
     go false x true y false z q = absurd (false≢true q)
     go false x false y c z q = absurd (false≢true q)
 
--- of two, not both outrank the other
-above-one : {g h : Grant} → Above h g → Above g h → ⊥
-above-one (above-rank a) (above-rank b) = omega arith
-above-one (above-rank a) (above-number b m) = omega arith
-above-one (above-number a m) (above-rank b) = omega arith
-above-one (above-number a m) (above-number b n) = omega arith
+-- one that outranks another does not yield to it
+above-yields : {g h : Grant} → Above h g → Yields h g → ⊥
+above-yields (above-rank a) (yields-rank b) = omega arith
+above-yields (above-rank a) (yields-number b m) = omega arith
+above-yields (above-number a m) (yields-rank b) = omega arith
+above-yields (above-number a m) (yields-number b n) = omega arith
 
 -- those of them that hold a staff number: they overlap the point that decide is asked about
 abbrev pub holding : ℕ → List Grant → List Grant
@@ -61,20 +61,17 @@ module _ (gs : List Grant) (distinct : Distinct (map (λ h. h .number) gs)) (g :
   kept-foremost free =
       record {
         member = mem-keep (λ h. holds (staffOf (h .bounds)) s) gs g member (test g staff);
-        above = λ h m n. go h (keep-mem (λ h. holds (staffOf (h .bounds)) s) gs h m) n (outranks h g) refl (outranks g h) refl;
+        yield = λ h m. go h (keep-mem (λ h. holds (staffOf (h .bounds)) s) gs h m) (outranks h g) refl;
       }
     where
-      go : (h : Grant) → List·Memᴰ h gs × (holds (staffOf (h .bounds)) s ≡ true) → (h ≡ g → ⊥) → (a : Bool) → outranks h g ≡ a → (b : Bool) → outranks g h ≡ b → b ≡ true
-      go h m n true x b y = absurd (free (record { by = h; member = m .0; above = x; staff = held h (m .1) }))
-      go h m n false x true y = refl
-      go h m n false x false y =
-          absurd (n (distinct-key (λ h. h .number) distinct h g (m .0) member (yields-both (not-outranks-yields h g x) (not-outranks-yields g h y))))
+      go : (h : Grant) → List·Memᴰ h gs × (holds (staffOf (h .bounds)) s ≡ true) → (a : Bool) → outranks h g ≡ a → Yields h g
+      go h m true x = absurd (free (record { by = h; member = m .0; above = x; staff = held h (m .1) }))
+      go h m false x = not-outranks-yields h g x
 
   foremost-kept : Foremost g (holding s gs) → Overridden gs g s → ⊥
   foremost-kept f o =
-      let above = outranks-above (o .by) g (o .above) in
-      let other : o .by ≡ g → ⊥ = λ e. let self = subst (λ (h : Grant). Above h g) e above in above-one self self in
-      above-one above (outranks-above g (o .by) (f .above (o .by) (mem-keep (λ h. holds (staffOf (h .bounds)) s) gs (o .by) (o .member) (test (o .by) (o .staff))) other))
+      above-yields (outranks-above (o .by) g (o .above))
+      (f .yield (o .by) (mem-keep (λ h. holds (staffOf (h .bounds)) s) gs (o .by) (o .member) (test (o .by) (o .staff))))
 
   pub kept-decides : (Overridden gs g s → ⊥) ↔ (decideAmong (holding s gs) ≡ decisionOf (g .kind) g)
   kept-decides =

@@ -1,5 +1,5 @@
--- How far a grant stands where other grants touch the same door and quarter (document 01, "The plain book": decide; issue 7, panel: a grant
--- that a higher one overrides for some or all of its staff is shown as such).
+-- How far a grant stands where other grants touch the same door and quarter (document 01, "The plain book": decide). A panel shows it, so
+-- that nobody acts on a grant that a higher one overrides.
 --   HasStaff g s           s is one of g's staff numbers
 --   Overridden gs g s      one of gs outranks g and has the staff number s, so that it and not g decides for s
 --   Stands gs g x          in plain words: Whole, none of g's staff numbers is overridden; Nowhere, g has some and each is; Partly, one is and one isn't
