@@ -12,7 +12,7 @@ use mathlib.Core.List.{List, [], _∷_, List·Memᴰ, List·Memᴰ·head, List·
 use native.Mathlib.Omega.{arith}
 use native.Mathlib.Decide.{ℕ-discrete}
 use borrow.Author.Tests.{not-true, not-false}
-use Rattle.lists.specs.Tests.{any, every}
+use Rattle.lists.specs.Tests.{every}
 use Rattle.lists.specs.Ranges.{countFrom}
 use Rattle.lists.proofs.TestLaws.{both-le, le-both, every-all}
 use Rattle.lists.proofs.KeyLaws.{any-mem, mem-any}

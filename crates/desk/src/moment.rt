@@ -1,5 +1,5 @@
 // Puts the day and time of a quarter as text, `YYYY-MM-DD HH:MM`, at a place of a line (specs/Moment), and answers the next place.
-ghost use Prim.Native.Nat.{_+_, _<_, _≤_};
+ghost use Prim.Native.Nat.{_+_, _≤_};
 ghost use lib.ListN.{length};
 ghost use Rattle.slip_text.specs.Put.{Put};
 ghost use Rattle.desk.specs.Calendar.{lastYear};
