@@ -3,7 +3,6 @@
 use borrow.Author.Needs.{needs}
 use Prim.Native.Nat.{_+_, _<_}
 use mathlib.Core.Path.{_≡_, refl}
-use native.Mathlib.Omega.{arith}
 use Rattle.model.specs.Values.{wordValues}
 use Rattle.desk.specs.Calendar.{dateAfter}
 use Rattle.desk.proofs.CalendarLaws.{next-year, after-turn, after-end}

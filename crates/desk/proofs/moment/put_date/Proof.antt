@@ -39,8 +39,13 @@ same-length c = search needs
 
 returns : tie.Need-returns
 returns c =
-    let year = put-then (c .before .before .before .before .before .before .before .before .before .before .before .before .before .before .before .before .before .before .before .before .before .before .before .before .before .put-two .ensures) (c .before .before .before .before .before .before .before .before .before .before .before .before .before .before .before .before .before .before .before .before .put-two2 .ensures) in
-    put-then (put-then year (put-then (c .before .before .before .before .before .before .before .before .before .before .before .before .before .before .before .before .put-byte .ensures) (c .before .before .before .before .before .before .before .before .before .before .before .put-two3 .ensures))) (put-then (c .before .before .before .before .before .before .before .put-byte2 .ensures) (c .before .before .put-two4 .ensures))
+    let day = c .before .before in
+    let dash = day .before .before .before .before .before in
+    let month = dash .before .before .before .before in
+    let hyphen = month .before .before .before .before .before in
+    let year = hyphen .before .before .before .before in
+    let century = year .before .before .before .before .before in
+    put-then (put-then (put-then (century .put-two .ensures) (year .put-two2 .ensures)) (put-then (hyphen .put-byte .ensures) (month .put-two3 .ensures))) (put-then (dash .put-byte2 .ensures) (day .put-two4 .ensures))
 
 pub put-date-spec : {M : Type 1} → statement M
 put-date-spec =

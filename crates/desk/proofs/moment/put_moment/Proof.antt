@@ -25,7 +25,10 @@ same-length c = search needs
 
 returns : tie.Need-returns
 returns c =
-    rw (sym (c .before .before .before .before .before .before .before .before .before .before .before .before .day-of .ensures), sym (c .before .before .before .before .before .before .before .before .before .before .before .date-after .ensures)) (put-then (c .before .before .before .before .before .before .before .before .before .before .put-date .ensures) (put-then (c .before .before .before .before .before .before .put-byte .ensures) (c .before .before .put-time .ensures)))
+    let time = c .before .before in
+    let gap = time .before .before .before .before in
+    let date = gap .before .before .before .before in
+    rw (sym (date .before .before .day-of .ensures), sym (date .before .date-after .ensures)) (put-then (date .put-date .ensures) (put-then (gap .put-byte .ensures) (time .put-time .ensures)))
 
 pub put-moment-spec : {M : Type 1} → statement M
 put-moment-spec =

@@ -25,7 +25,10 @@ same-length c = search needs
 
 returns : tie.Need-returns
 returns c =
-    rw (sym (c .before .before .before .before .before .before .before .before .before .before .before .before .hour-of .ensures), sym (c .before .before .before .minute-of .ensures)) (put-then (c .before .before .before .before .before .before .before .before .before .before .before .put-two .ensures) (put-then (c .before .before .before .before .before .before .before .put-byte .ensures) (c .before .before .put-two2 .ensures)))
+    let minute = c .before .before in
+    let colon = minute .before .before .before .before .before in
+    let hour = colon .before .before .before .before in
+    rw (sym (hour .before .hour-of .ensures), sym (minute .before .minute-of .ensures)) (put-then (hour .put-two .ensures) (put-then (colon .put-byte .ensures) (minute .put-two2 .ensures)))
 
 pub put-time-spec : {M : Type 1} → statement M
 put-time-spec =

@@ -26,7 +26,9 @@ same-length : tie.Need-same-length
 same-length c = search needs
 
 returns : tie.Need-returns
-returns c = put-then (c .before .before .before .before .before .before .put-byte .ensures) (c .before .before .put-byte2 .ensures)
+returns c =
+    let last = c .before .before in
+    put-then (last .before .before .before .before .put-byte .ensures) (last .put-byte2 .ensures)
 
 pub put-two-spec : {M : Type 1} → statement M
 put-two-spec =

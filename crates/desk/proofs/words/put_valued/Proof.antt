@@ -32,7 +32,11 @@ same-length : tie.Need-same-length
 same-length c = search needs
 
 returns : tie.Need-returns
-returns c = put-then (put-then (c .before .before .before .before .before .before .before .before .before .before .put-text .ensures) (c .before .before .before .before .before .before .put-number .ensures)) (c .before .before .put-text2 .ensures)
+returns c =
+    let after = c .before .before in
+    let number = after .before .before .before .before in
+    let before = number .before .before .before .before in
+    put-then (put-then (before .put-text .ensures) (number .put-number .ensures)) (after .put-text2 .ensures)
 
 pub put-valued-spec : {M : Type 1} → statement M
 put-valued-spec =
