@@ -207,6 +207,7 @@ pub fn search(
     if cells < k {
         return false;
     }
+    // The root's own range on the last axis: it changes nothing, and axis 0 comes next.
     visit(
         pool,
         cells,
