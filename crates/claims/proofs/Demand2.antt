@@ -1,17 +1,20 @@
--- Demand 2: a hit is condition (5); the accepted files; load, match, one byte changed.
+-- Demand 2: a hit is condition (5); the accepted files; load, match, one byte changed; the parts that block read hands back.
 --   list-overlapping          what an accepted list wrote, on words that stand for a book
 --   decide-foremost           what decide answers there
 --   writer-makes              write gives the file of a set that was granted in any order
 --   loads                     load gives the set back
 --   matches-set               match, on words that stand for a book
 --   one-byte-refused          an accepted file with one byte changed
+--   parts, refused-parts      what block read hands back, of an accepted file and of a refused block
 --   demand2
 -- Assumes nothing.
-use Prim.Native.Nat.{ℕ, _/_, _≤_, _<_}
+use Prim.Native.Nat.{ℕ, zero, suc, _/_, _≤_, _<_}
 use mathlib.Core.Logic.{_↔_, _≢_}
 use mathlib.Core.Path.{_≡_, sym, ap, _∙_}
 use mathlib.Core.Bool.{cond}
-use mathlib.Core.List.{List, [], _∷_, map, List·Memᴰ, Memᴰ·map, Memᴰ·of-map, Memᴰ·cast}
+use mathlib.Core.List.{List, [], _∷_, map, flatMap, List·Memᴰ, Memᴰ·map, Memᴰ·of-map, Memᴰ·cast}
+use mathlib.Core.Option.{none}
+use native.Mathlib.Omega.{arith}
 use lib.ListN.{length, getD, set, take}
 use Rattle.lists.proofs.KeyLaws.{distinct-keys-keep}
 use Rattle.lists.proofs.SortLaws.{rises-keep, rises-map, rises-getD}
@@ -24,7 +27,7 @@ use Rattle.model.specs.Interval.{Interval}
 use Rattle.model.specs.Box.{pointBox}
 use Rattle.model.specs.Overlap.{Overlap, overlaps}
 use Rattle.model.specs.Answer.{accepted, refusal, decisionAnswer}
-use Rattle.model.specs.Refusal.{Step}
+use Rattle.model.specs.Refusal.{Step, firstFault, refusing}
 use Rattle.model.specs.Decide.{decisionOf, decideAmong}
 use Rattle.model.specs.Call.{Call}
 use Rattle.model.specs.Values.{byteValues, Below, CallsFit}
@@ -37,14 +40,18 @@ use Rattle.model.proofs.BookLaws.{bookList-writes}
 use Rattle.geometry.proofs.SearchRangeLaws.{box-hits-iff}
 use Rattle.pool.specs.Capacity.{wrongLength, wrongPool}
 use Rattle.adt.specs.Reach.{Holds}
+use Rattle.grants_file.specs.Record.{encodeRecord}
 use Rattle.grants_file.specs.Block.{blockBytes}
-use Rattle.grants_file.specs.File.{fileOf}
+use Rattle.grants_file.specs.File.{chunk, fileOf, blocksIn, grantsIn}
+use Rattle.grants_file.specs.BlockRead.{readCauses, partOf}
 use Rattle.grants_file.specs.FileSets.{Accepted, DoorRange, FileSet, Ordering}
+use Rattle.grants_file.proofs.CauseLaws.{wrongBlockCount-iff, Passes, accepted-iff}
 use Rattle.grants_file.proofs.VerdictLaws.{accepted-files}
 use Rattle.grants_file.proofs.OneByteLaws.{one-byte}
+use Rattle.grants_file.proofs.PartLaws.{passes-read, part-first, part-grants, part-refusal}
 use Rattle.grants_file.proofs.SetLaws.{set-touching}
 use Rattle.index.specs.Calls.{startCall, listCall, decideCall, wordsStep}
-use Rattle.index.specs.FileCalls.{grantAll, loadCall, matchCall}
+use Rattle.index.specs.FileCalls.{grantAll, loadCall, matchCall, blockCall}
 use Rattle.index.proofs.Represents.{numberOf, Represents, live-distinct, represents-rises}
 use Rattle.index.proofs.QueryLaws.{list-refines, decide-refines}
 use Rattle.index.proofs.StartLaws.{start-sized}
@@ -154,6 +161,31 @@ one-byte-refused f i v w below taken inside byte other =
     let refused = one-byte f i v below taken inside byte other in
     (load-refuses w (set f i v) _ refused, match-refuses w (set f i v) _ refused)
 
+-- block read accepts a block in which no cause holds
+block-accepted : (f : List ℕ) (i : ℕ) → firstFault (readCauses f i) ≡ none → blockCall f i .answer ≡ accepted []
+unfolding blockCall refusing
+block-accepted f i e = rw e
+
+pub parts : (f : List ℕ) → Below byteValues f → Accepted f
+    → ((i : ℕ) → i < blocksIn f → blockCall f i .answer ≡ accepted [])
+    × (partOf f 0 ≡ [])
+    × ((i : ℕ) → 0 < i → i < blocksIn f → partOf f i ≡ flatMap encodeRecord (chunk i (grantsIn f)))
+parts f below taken = (
+  (λ i h. block-accepted f i (passes-read f passes i h)),
+  part-first f passes (wrongBlockCount-iff f .0 (passes .count) .some),
+  records,
+)
+  where
+    passes : Passes f
+    passes = accepted-iff f .0 taken
+
+    records : (i : ℕ) → 0 < i → i < blocksIn f → partOf f i ≡ flatMap encodeRecord (chunk i (grantsIn f))
+    records zero some h = absurd (omega arith)
+    records (suc i) some h = part-grants f passes below i h
+
+pub refused-parts : (f : List ℕ) (i : ℕ) → blockCall f i .answer ≢ accepted [] → partOf f i ≡ []
+refused-parts f i refused = part-refusal f i (λ e. refused (block-accepted f i e))
+
 pub demand2 : Demand2
 demand2 =
     record {
@@ -165,4 +197,6 @@ demand2 =
       loads = loads;
       matches = λ c memory calls doors gs m fit. matches-set (calls-represent m calls fit) doors gs;
       one-byte = one-byte-refused;
+      parts = parts;
+      refused-parts = refused-parts;
     }

@@ -4,6 +4,7 @@
 --   doors-met, set-met, order-met  DoorRange, FileSet, Ordering
 --   bytes-met, accepted-met        Below, Accepted
 --   byte-met                       one byte to change: its place, its value, and that it is another
+--   block-met, refused-met         a block of records, and a refused block, in Demand2 .parts and .refused-parts
 --   list-met                       list's answer in Demand2 .lists
 --   room-met, inside-met           cells enough, and a door inside the range, in Demand3 .loads
 --   load-met, made-met             load's answer, and Made in both its cases
@@ -22,6 +23,7 @@ use Rattle.lists.specs.Sort.{insertBy, sortBy}
 use Rattle.lists.proofs.TestLaws.{T-iff, every-all}
 use Rattle.model.specs.declared.Box.{Box}
 use Rattle.model.specs.declared.Grant.{Grant}
+use Rattle.model.specs.declared.Fault.the-variants.{BadLength}
 use Rattle.model.specs.declared.Kind.the-variants.{Bars, Opens}
 use Rattle.model.specs.Interval.{Interval, holds}
 use Rattle.model.specs.Box.{boxValues}
@@ -34,13 +36,16 @@ use Rattle.model.specs.Call.{Call, grant}
 use Rattle.model.specs.Values.{wordValues, byteValues, Below, GrantFits, CallFits, CallsFit}
 use Rattle.model.specs.Book.{bookGrant, bookList, bookStep}
 use Rattle.model.specs.Histories.{Told, after}
+use Rattle.model.proofs.AnswerLaws.{refusal-accepted}
 use Rattle.grants_file.specs.Block.{sealed, headerBlock}
-use Rattle.grants_file.specs.File.{fileOf}
+use Rattle.grants_file.specs.File.{fileOf, blocksIn}
+use Rattle.grants_file.specs.Verdict.{wrongBlockCount}
+use Rattle.grants_file.specs.BlockRead.{notInFile, readCauses}
 use Rattle.grants_file.specs.FileSets.{Accepted, DoorRange, ascending-none, ascending-more, FileSet, Ordering}
 use Rattle.grants_file.proofs.FileLaws.{length-fileOf, fileOf-below}
 use Rattle.grants_file.proofs.VerdictLaws.{fileOf-accepted}
 use Rattle.index.specs.Calls.{listCall, wordsStep}
-use Rattle.index.specs.FileCalls.{requestOf, loadCall}
+use Rattle.index.specs.FileCalls.{requestOf, loadCall, blockCall}
 use Rattle.index.proofs.QueryLaws.{list-refines}
 use Rattle.index.proofs.LoadLaws.{requestOf-fits}
 use Rattle.claims.specs.Claims.{Memory, wordsAfter, liveAfter, touching, Made, made-start, made-load}
@@ -124,6 +129,13 @@ accepted-met = fileOf-accepted doors grants set-met
 pub byte-met : (0 < length (fileOf doors grants)) × (0 < byteValues) × (0 ≢ getD (fileOf doors grants) 0 0)
 unfolding fileOf headerBlock sealed
 byte-met = (omega (arith, length-fileOf doors grants), omega arith, λ e. omega arith)
+
+pub block-met : (0 < 1) × (1 < blocksIn (fileOf doors grants))
+block-met = (omega arith, omega (arith, length-fileOf doors grants))
+
+pub refused-met : blockCall [] 0 .answer ≢ accepted []
+unfolding blockCall refusing readCauses notInFile wrongBlockCount firstFault
+refused-met e = refusal-accepted BadLength [] e
 
 pub list-met : listCall (wordsAfter memory calls) (box 0 65535 1 40 0 65535) (0 ∷ []) .answer ≡ accepted (1 ∷ [])
 unfolding after bookStep bookGrant bookList refusing firstFault insertBy keep any overlaps reversedBox

@@ -1,6 +1,6 @@
 -- The claims: the three demands of document 00, as types. Nothing is assumed but what each type names before its arrow.
 --   Demand1    each call is refused under its fault, and else accepted; made pools never give 9
---   Demand2    a hit is condition (5); the accepted files; load, match, one byte changed
+--   Demand2    a hit is condition (5); the accepted files; load, match, one byte changed; the parts that block read hands back
 --   Demand3    every list of calls is told what the plain book tells it, on one tree, through every file
 -- Which field shuts out each of document 01's "Worthless versions":
 --   list always empty, decide always none    Demand2 .lists, .decisions; Demand3 .answers
@@ -17,7 +17,7 @@ use Prim.Native.Nat.{ℕ, _/_, _≤_, _<_}
 use mathlib.Core.Logic.{_↔_, _≢_}
 use mathlib.Core.Path.{_≡_}
 use mathlib.Core.Bool.{Bool, true, false, cond}
-use mathlib.Core.List.{List, [], _∷_, List·Memᴰ}
+use mathlib.Core.List.{List, [], _∷_, flatMap, List·Memᴰ}
 use lib.Dec.{T}
 use lib.ListN.{length, getD, set, take}
 use Rattle.lists.specs.Tests.{keep}
@@ -38,9 +38,10 @@ use Rattle.model.specs.Book.{Book, emptyBook, bookStep}
 use Rattle.geometry.specs.Point.{inside, pointOf}
 use Rattle.geometry.specs.SearchRange.{rangeOfBox, rangeOfDoors, rangeOfNumber, rangeOfAll}
 use Rattle.pool.specs.Capacity.{Sized, wrongLength, wrongPool}
+use Rattle.grants_file.specs.Record.{encodeRecord}
 use Rattle.grants_file.specs.Block.{blockBytes}
-use Rattle.grants_file.specs.File.{fileOf, doorsIn, grantsIn}
-use Rattle.grants_file.specs.BlockRead.{readCauses}
+use Rattle.grants_file.specs.File.{chunk, fileOf, blocksIn, doorsIn, grantsIn}
+use Rattle.grants_file.specs.BlockRead.{readCauses, partOf}
 use Rattle.index.specs.LinkCauses.{searchMeets9, searchHits, grantMeets9, revokeMeets9}
 use Rattle.index.specs.Order.{startOrder, grantOrder, revokeOrder, listOrder, lookOrder, writeOrder, loadOrder, matchOrder}
 use Rattle.index.specs.Calls.{startCall, grantCall, revokeCall, listCall, decideCall, countCall, wordsStep}
@@ -147,6 +148,13 @@ pub record Demand2 : Type 0 where
   pub one-byte : (f : List ℕ) (i v : ℕ) (w : List ℕ) → Below byteValues f → Accepted f → i < length f → v < byteValues → v ≢ getD f i 0
       → (loadCall w (set f i v) .answer ≡ cond (wrongLength w) (refusal BadPool) (refusal (BadChecksum (i / blockBytes))))
       × (matchCall w (set f i v) .answer ≡ cond (wrongPool w) (refusal BadPool) (refusal (BadChecksum (i / blockBytes))))
+  -- block read accepts each block of an accepted file, and its part is the records of that block's grants, of block 0 none
+  pub parts : (f : List ℕ) → Below byteValues f → Accepted f
+      → ((i : ℕ) → i < blocksIn f → blockCall f i .answer ≡ accepted [])
+      × (partOf f 0 ≡ [])
+      × ((i : ℕ) → 0 < i → i < blocksIn f → partOf f i ≡ flatMap encodeRecord (chunk i (grantsIn f)))
+  -- in any bytes, the part of a refused block is empty
+  pub refused-parts : (f : List ℕ) (i : ℕ) → blockCall f i .answer ≢ accepted [] → partOf f i ≡ []
 
 -- the pools that start or load and later calls made, of c cells
 pub data Made (c : ℕ) : List ℕ → Type 0 where

@@ -3,6 +3,7 @@
 --   countOf-recordBlock, recordsOf-recordBlock              the records that were written
 --   length-decoded, recordsOf-mem                           as many grants as are read, each from 16 bytes
 --   sealed-take                                             512 bytes of right check and fill are sealed
+--   records-joined                                          the bytes of records of known kinds are those of the grants that they give
 --   headerBlock-below, recordBlock-below                    what is written is bytes
 --   headerBlock-take, recordBlock-take                      block 0, or block i of known kinds, that passes was written
 -- Assumes nothing.
@@ -190,7 +191,7 @@ module _ (b : List ℕ) (long : length b ≡ blockBytes) (below : Below byteValu
         rw (← place .2) (bytesAt-below byteValues b (recordsPlace + recordBytes * place .0) recordBytes below),
       )
 
-  records-joined : (n : ℕ) → n ≤ recordsPerBlock → ((r : List ℕ) → List·Memᴰ r (recordsOf b n) → kindByte r ≤ 1)
+  pub records-joined : (n : ℕ) → n ≤ recordsPerBlock → ((r : List ℕ) → List·Memᴰ r (recordsOf b n) → kindByte r ≤ 1)
       → take (recordBytes * n) (drop recordsPlace b) ≡ flatMap encodeRecord (map decodeRecord (recordsOf b n))
   records-joined n few kinds =
       sym (parts-joined recordBytes 0 n (drop recordsPlace b))

@@ -7,6 +7,7 @@ pub mod FileLaws
 pub mod CauseLaws
 pub mod VerdictLaws
 pub mod OneByteLaws
+pub mod PartLaws
 pub mod RecordSteps
 pub mod BlockSteps
 pub mod FileSteps

@@ -1,0 +1,95 @@
+-- Block read on an accepted file, specs/BlockRead: every block passes alone, and its part is the records of its grants (demand 2).
+--   wrongCount-passes, wrongAlone-passes, passes-read    no cause of block read holds in a block of a file that passes
+--   bytesAt-block                                        bytes of a block, and the same bytes of the file
+--   part-first, part-grants                              the part of block 0, and of another block
+--   part-refusal                                         a refused block's
+-- Assumes nothing.
+use Prim.Native.Nat.{ℕ, zero, suc, _+_, _-_, _*_, _≤_, _<_}
+use mathlib.Core.Logic.{_≢_}
+use mathlib.Core.Path.{_≡_, refl, sym, ap, _∙_}
+use mathlib.Core.Bool.{false}
+use mathlib.Core.List.{List, [], flatMap}
+use mathlib.Core.Option.{Option, none, some}
+use native.Mathlib.Omega.{arith}
+use native.Mathlib.Decide.{ℕ-discrete}
+use borrow.Author.Tests.{le-leb, lt-leb, eq-eqb, ne-eqb}
+use lib.ListN.{take, drop}
+use lib.Seq.{take-take, drop-drop}
+use Rattle.lists.proofs.ListLaws.{drop-take}
+use Rattle.model.specs.declared.Fault.{Fault}
+use Rattle.model.specs.Refusal.{firstFault}
+use Rattle.model.specs.Values.{byteValues, Below}
+use Rattle.grants_file.specs.Bytes.{bytesAt}
+use Rattle.grants_file.specs.Record.{recordBytes, encodeRecord}
+use Rattle.grants_file.specs.Block.{blockBytes, recordsPlace, recordsPerBlock, countOf, recordsOf}
+use Rattle.grants_file.specs.File.{countIn, chunk, blocksIn, blockAt, totalIn, doorsIn, grantsIn}
+use Rattle.grants_file.specs.Verdict.{lastBefore, wrongRecordsIn}
+use Rattle.grants_file.specs.BlockRead.{notInFile, wrongCount, wrongAlone, readCauses, partOf}
+use Rattle.grants_file.proofs.BytesLaws.{bytesAt-below}
+use Rattle.grants_file.proofs.WrongRecordLaws.{wrongRecords-kinds}
+use Rattle.grants_file.proofs.BlockLaws.{records-joined}
+use Rattle.grants_file.proofs.FileLaws.{grantsOf, chunk-grantsIn, length-blockAt}
+use Rattle.grants_file.proofs.CauseLaws.{RightHeader, wrongHeader-iff, RightLayout, wrongLayout-iff, Passes}
+
+bytesAt-block : (f : List ℕ) (i at n : ℕ) → at + n ≤ blockBytes → bytesAt f (blockBytes * i + at) n ≡ bytesAt (blockAt f i) at n
+bytesAt-block f i at n h =
+    let rest = drop (blockBytes * i) f in
+    ap (take n) (sym (drop-drop at (blockBytes * i) f))
+    ∙ sym (take-take n (blockBytes - at) (drop at rest) (omega arith))
+    ∙ ap (take n) (sym (drop-take at blockBytes rest))
+
+module _ (f : List ℕ) (p : Passes f) where
+  header : RightHeader f
+  header = wrongHeader-iff f .0 (p .header)
+
+  layout : (i : ℕ) → suc i < blocksIn f → RightLayout f (suc i)
+  layout i h = wrongLayout-iff f (suc i) .0 (p .layouts i h)
+
+  -- a full block but for the last, which holds one record at least
+  wrongCount-passes : (i : ℕ) → suc i < blocksIn f → wrongCount f (suc i) ≡ false
+  unfolding wrongCount
+  wrongCount-passes i h = go (ℕ-discrete (suc (suc i)) (blocksIn f))
+    where
+      n : ℕ
+      n = countOf (blockAt f (suc i))
+
+      go : Dec (suc (suc i) ≡ blocksIn f) → wrongCount f (suc i) ≡ false
+      go (yes e) =
+          let some : 1 ≤ n = omega (arith, layout i h .count, header .blocks) in
+          let few : n ≤ recordsPerBlock = omega (arith, layout i h .count) in
+          rw (eq-eqb _ _ e, le-leb 1 n some, le-leb n recordsPerBlock few)
+      go (no e) =
+          let full : n ≡ recordsPerBlock = omega (arith, layout i h .count, header .blocks) in
+          rw (ne-eqb _ _ e, full)
+
+  wrongAlone-passes : (i : ℕ) → i < blocksIn f → wrongAlone f i ≡ false
+  unfolding wrongAlone
+  wrongAlone-passes zero h = rw (header .start, header .fill)
+  wrongAlone-passes (suc i) h = rw (layout i h .start, wrongCount-passes i h, layout i h .fill)
+
+  pub passes-read : (i : ℕ) → i < blocksIn f → firstFault (readCauses f i) ≡ none
+  unfolding readCauses notInFile firstFault
+  passes-read i h = rw (p .count, lt-leb (blocksIn f) i h, p .checksums i h, wrongAlone-passes i h)
+
+  pub part-first : 0 < blocksIn f → partOf f 0 ≡ []
+  unfolding partOf
+  part-first h = rw (passes-read 0 h)
+
+  pub part-grants : Below byteValues f → (i : ℕ) → suc i < blocksIn f → partOf f (suc i) ≡ flatMap encodeRecord (chunk (suc i) (grantsIn f))
+  unfolding partOf grantsOf wrongRecordsIn
+  part-grants below i h =
+      let b = blockAt f (suc i) in
+      let n = countIn (totalIn f) (suc i) in
+      let kinds = wrongRecords-kinds (doorsIn f) (lastBefore f (suc i)) (recordsOf b n) (p .records i h) in
+      rw (passes-read (suc i) h, layout i h .count)
+      (bytesAt-block f (suc i) recordsPlace (recordBytes * n) (omega arith)
+      ∙ records-joined b (length-blockAt f (suc i) h) (bytesAt-below byteValues f (blockBytes * suc i) blockBytes below) n (omega arith) kinds
+      ∙ ap (flatMap encodeRecord) (sym (chunk-grantsIn f i (omega (arith, header .blocks)))))
+
+pub part-refusal : (f : List ℕ) (i : ℕ) → firstFault (readCauses f i) ≢ none → partOf f i ≡ []
+unfolding partOf
+part-refusal f i refused = go (firstFault (readCauses f i)) refl
+  where
+    go : (o : Option Fault) → firstFault (readCauses f i) ≡ o → partOf f i ≡ []
+    go none e = absurd (refused e)
+    go (some fault) e = rw e
