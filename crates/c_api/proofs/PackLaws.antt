@@ -2,20 +2,25 @@
 --   number-word, a-word, b-word       a word's parts read back, where they fit their bits
 --   refusal-list, refusal-other       a refusal's value is a with fault 8, b with any other
 --   packs-pool, packs-lent, packs-out a call's answer, packed, with what it leaves
+--   block-answer                      block read's verdict is the answer of its call
 --   place-modulo                      where a block's records start, modulo what b holds, from the block's number modulo the same
 --   part-none, part-some              the packed part of a block: empty, or not
 -- Assumes nothing.
 use Prim.Native.Nat.{ℕ, _+_, _*_, _/_, _%_, _<_}
-use mathlib.Core.Path.{_≡_, sym, ap, subst, _∙_}
-use mathlib.Core.List.{List}
+use mathlib.Core.Path.{_≡_, refl, sym, ap, subst, _∙_}
+use mathlib.Core.List.{List, []}
+use mathlib.Core.Option.{Option, none, some}
 use native.Mathlib.Omega.{arith}
 use lib.ListN.{length}
 use borrow.Author.Tests.{eq-eqb, ne-eqb}
-use Rattle.model.specs.Answer.{Answer}
-use Rattle.model.specs.Refusal.{Step}
+use Rattle.model.specs.declared.Fault.{Fault}
+use Rattle.model.specs.Answer.{Answer, accepted}
+use Rattle.model.specs.Refusal.{Step, firstFault, stepBy, refusing}
 use Rattle.grants_file.specs.Block.{blockBytes, recordsPlace}
-use Rattle.grants_file.specs.BlockRead.{partOf}
+use Rattle.grants_file.specs.BlockRead.{readCauses, partOf}
+use Rattle.grants_file.specs.Answers.{answerBy, readAnswer}
 use Rattle.index.specs.Contract.{Leaves, Lends}
+use Rattle.index.specs.FileCalls.{blockCall}
 use Rattle.c_api.specs.Pack.{word, firstOf, packRefusal, pack, packPart}
 use Rattle.c_api.specs.Contract.{PacksPool, PacksLent, PacksOut}
 
@@ -48,6 +53,14 @@ module _ {a : Answer} {r : ℕ} {memory : List ℕ} {s : Step (List ℕ)} where
 
 pub packs-out : {a b : Answer} {r : ℕ} {out before : List ℕ} → a ≡ b → PacksOut r out before a → PacksOut r out before b
 packs-out e p = subst (PacksOut _ _ _) e p
+
+pub block-answer : (f : List ℕ) (i : ℕ) → readAnswer f i ≡ blockCall f i .answer
+unfolding readAnswer blockCall refusing
+block-answer f i = go (firstFault (readCauses f i))
+  where
+    go : (o : Option Fault) → answerBy o ≡ stepBy o f [] (record { state = f; answer = accepted []; lent = [] }) .answer
+    go none = refl
+    go (some fault) = refl
 
 pub place-modulo : (i : ℕ) → (blockBytes * (i % 4294967296) + recordsPlace) % 4294967296 ≡ (blockBytes * i + recordsPlace) % 4294967296
 place-modulo i = omega arith

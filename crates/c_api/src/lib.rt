@@ -3,8 +3,7 @@
 ghost use mathlib.Core.Path.{_≡_};
 ghost use Rattle.model.specs.Call.{request};
 ghost use Rattle.index.specs.Calls.{startCall, grantCall, revokeCall, listCall, decideCall, countCall};
-ghost use Rattle.index.specs.FileCalls.{writeCall, loadCall, matchCall};
-ghost use Rattle.grants_file.specs.Answers.{readAnswer};
+ghost use Rattle.index.specs.FileCalls.{writeCall, loadCall, matchCall, blockCall};
 ghost use Rattle.c_api.specs.Pack.{pack, packPair, packLength, packPart, boxOf};
 ghost use Rattle.c_api.specs.Contract.{PacksPool, PacksLent, PacksOut};
 use crate::pack::pack_counted;
@@ -146,7 +145,7 @@ pub extern "C" fn lg_match(pool: &[u16], file: &[u8]) -> u64
 // The verdict on one block: refuses 10, 12 and 11, in this order.
 #[no_mangle]
 pub extern "C" fn lg_block(file: &[u8], block: u64) -> u64
-    ensures { λ r. ⌜ r ≡ pack (readAnswer (now (file .entry)) block) ⌝ }
+    ensures { λ r. ⌜ r ≡ pack (blockCall (now (file .entry)) block .answer) ⌝ }
 {
     pack_outcome(block_verdict(file, block))
 }
