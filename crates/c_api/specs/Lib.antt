@@ -1,3 +1,5 @@
--- The C interface: how an answer is packed into one word, and what each call leaves.
+-- The C interface: how an answer is packed into one word, what each call leaves, and the claims that the values fit and read back.
 pub mod Pack
 pub mod Contract
+pub mod Fits
+pub mod Reads

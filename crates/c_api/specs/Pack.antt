@@ -1,4 +1,5 @@
 -- An answer of document 01's numbers as the one word that a C call returns.
+--   numberValues, aValues, bValues   how many values the bits of each part hold
 --   word number a b     bits 0 to 7 the fault's number (0: accepted), bits 8 to 31 a, bits 32 to 63 b
 --   packRefusal n vs    a refusal: fault 8's value (the count needed) is a, any other fault's value is b
 --   pack answer         an accepted answer's first value is a: list, decide, match; of start, grant, revoke, load and the verdict on a block nothing
@@ -6,8 +7,7 @@
 --   packLength answer   its first value is b: write
 --   packPart f i        the part of block i's records: a its length, b where it starts in the file; both 0 where the part is empty
 --   boxOf               six arguments as document 01's box
--- A value is taken modulo what its bits hold. The values of every call fit them: counts are at most 2,048, lengths and places in a file
--- at most 34,816, and blocks below 68.
+-- A value is taken modulo what its bits hold. The values of every call fit them: the claim AnswersFit of Fits.
 -- Assumes nothing: these are definitions.
 use Prim.Native.Nat.{ℕ, _+_, _*_, _%_}
 use mathlib.Core.Bool.{cond}
@@ -19,8 +19,17 @@ use Rattle.model.specs.Answer.{Answer, accepted, refused}
 use Rattle.grants_file.specs.Block.{blockBytes, recordsPlace}
 use Rattle.grants_file.specs.BlockRead.{partOf}
 
+abbrev pub numberValues : ℕ
+numberValues = 256
+
+abbrev pub aValues : ℕ
+aValues = 16777216
+
+abbrev pub bValues : ℕ
+bValues = 4294967296
+
 unfoldable pub word : ℕ → ℕ → ℕ → ℕ
-word number a b = number % 256 + 256 * (a % 16777216) + 4294967296 * (b % 4294967296)
+word number a b = number % numberValues + 256 * (a % aValues) + 4294967296 * (b % bValues)
 
 -- the first and the second value; 0 where there is none
 abbrev pub firstOf : List ℕ → ℕ

@@ -19,6 +19,7 @@ pub mod FindLaws
 pub mod PlanLaws
 pub mod RefusalSteps
 pub mod HitsLaws
+pub mod FewHitsLaws
 pub mod LookSteps
 pub mod CountSteps
 pub mod NumberLaws
