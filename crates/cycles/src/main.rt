@@ -3,20 +3,17 @@
 // empty index.
 use file_calls::matching::match_file;
 use file_calls::write::write;
+use grants_file::file::MAX_BYTES;
 use index::start::start;
 use libc::STDOUT_FILENO;
+use model::MAX_GRANTS;
 use model::Matched;
 use model::Outcome;
 use model::Written;
+use pool::layout::MAX_WORDS;
 use slip_session::answer;
 use slip_text::printing::LINE_BYTES;
 use slip_text::printing::print_outcome;
-
-// The words of a pool of 2,048 cells.
-const WORDS: usize = 20483;
-
-// The bytes of the largest file.
-const FILE_BYTES: usize = 34816;
 
 fn put(pool: &mut [u16], at: usize, word: u16) {
     if at < pool.len() {
@@ -54,7 +51,7 @@ fn call(pool: &mut [u16], lent: &mut [u16], line: &[u8]) {
 
 // A slip of each kind.
 fn each_call(pool: &mut [u16]) {
-    let mut lent = [0u16; 2048];
+    let mut lent = [0u16; MAX_GRANTS];
     call(pool, &mut lent, b"C");
     call(pool, &mut lent, b"D 1 1 1");
     call(pool, &mut lent, b"L 0 65535 0 65535 0 65535");
@@ -69,7 +66,7 @@ fn say(outcome: Outcome) {
 }
 
 fn write_all_doors(pool: &[u16]) {
-    let mut bytes = [0u8; FILE_BYTES];
+    let mut bytes = [0u8; MAX_BYTES];
     let written = write(pool, 0, 65535, &mut bytes);
     match written {
         Written::Length(_) => say(Outcome::Done),
@@ -98,7 +95,7 @@ fn all_calls(pool: &mut [u16]) {
 }
 
 fn main() {
-    let mut wide = [0u16; WORDS];
+    let mut wide = [0u16; MAX_WORDS];
     every_link_one(&mut wide);
     header(&mut wide, 2048);
     all_calls(&mut wide);
@@ -110,7 +107,7 @@ fn main() {
     link(&mut three, 23, 24, 1, 2);
     all_calls(&mut three);
 
-    let mut two = [0u16; WORDS];
+    let mut two = [0u16; MAX_WORDS];
     header(&mut two, 2048);
     link(&mut two, 3, 4, 2, 2);
     link(&mut two, 13, 14, 1, 1);

@@ -3,6 +3,6 @@
 // What each answers and leaves is its definition in index/specs/FileCalls.
 pub mod load;
 pub mod matching;
-mod sorted_cells;
+pub mod sorted_cells;
 pub mod write;
 mod write_file;

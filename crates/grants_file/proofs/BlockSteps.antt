@@ -2,7 +2,7 @@
 --   magic-first, magic-second, magic-third, magic-fourth     the mark, byte by byte
 --   start-number, start-magic                   the block's number where the mark stands, and a wrong mark
 --   padding-found, padding-next, padding-end    the fill from a place on, a byte at a time
---   records-start, records-wrong, records-next, records-end   the records left, one at a time
+--   records-start, records-cons, records-wrong, records-next, records-end   the records left, one at a time
 -- Assumes nothing.
 use Prim.Native.Nat.{ℕ, suc, _+_, _-_, _*_, _<_, _≤_}
 use mathlib.Core.Path.{_≡_, refl, sym, ap, _∙_}
@@ -88,7 +88,7 @@ abbrev pub recordsFrom : List ℕ → ℕ → ℕ → List (List ℕ)
 recordsFrom b i n = map (λ r. recordAt b (recordsPlace + recordBytes * r)) (countFrom i (n - i))
 
 module _ (doors : Interval) (last : ℕ) (b : List ℕ) (i n : ℕ) where
-  records-cons : i < n → recordsFrom b i n ≡ recordAt b (recordsPlace + recordBytes * i) ∷ recordsFrom b (i + 1) n
+  pub records-cons : i < n → recordsFrom b i n ≡ recordAt b (recordsPlace + recordBytes * i) ∷ recordsFrom b (i + 1) n
   unfolding countFrom
   records-cons h =
       let e : n - i ≡ suc (n - (i + 1)) = omega arith in

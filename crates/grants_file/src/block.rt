@@ -49,7 +49,7 @@ pub fn wrong_checksum(block: &[u8]) -> bool
 }
 
 // Document 01's mark.
-fn has_magic(block: &[u8]) -> bool
+pub fn has_magic(block: &[u8]) -> bool
     requires { ⌜ length (now block) ≡ blockBytes ⌝ }
     ensures { λ r. ⌜ r ≡ sameNumbers (take (length magic) (now (block .entry))) magic ⌝ }
 {

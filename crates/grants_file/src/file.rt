@@ -9,6 +9,9 @@ use crate::block::BLOCK_BYTES;
 
 pub const MAX_BLOCKS: usize = 68;
 
+// The bytes of the longest file.
+pub const MAX_BYTES: usize = BLOCK_BYTES * MAX_BLOCKS;
+
 // The whole blocks that a file's length holds.
 pub fn blocks_in(file: &[u8]) -> usize
     ensures { λ r. ⌜ r ≡ blocksIn (now (file .entry)) ⌝ }

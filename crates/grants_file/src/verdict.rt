@@ -26,10 +26,8 @@ use crate::grants::last_door;
 use crate::grants::total_in;
 use crate::record::RECORD_BYTES;
 use model::Fault;
+use model::MAX_GRANTS;
 use model::Outcome;
-
-// Document 01's highest n.
-const MAX_GRANTS: usize = 2048;
 
 // The blocks of a file of so many grants.
 pub fn blocks_for(total: usize) -> usize

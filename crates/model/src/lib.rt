@@ -6,6 +6,9 @@ pub mod decide;
 pub mod kinds;
 pub mod same;
 
+// Document 01's highest C, and the highest n of a file.
+pub const MAX_GRANTS: usize = 2048;
+
 // Document 01's kind of a grant: 0 bars, 1 opens.
 pub enum Kind {
     Bars,

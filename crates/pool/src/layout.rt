@@ -6,6 +6,7 @@ ghost use Rattle.model.specs.Limits.{maxGrants};
 ghost use Rattle.pool.specs.Layout.{place, offset, cellWords, fieldOf};
 ghost use Rattle.pool.specs.Capacity.{poolLength, lengthCapacity, poolCapacity};
 use crate::Field;
+use model::MAX_GRANTS;
 
 pub const CAPACITY: usize = 0;
 
@@ -17,8 +18,10 @@ const HEADER_WORDS: usize = 3;
 
 pub const CELL_WORDS: usize = 10;
 
-// Document 01's highest C.
-pub const MAX_CAPACITY: usize = 2048;
+pub const MAX_CAPACITY: usize = MAX_GRANTS;
+
+// The words of a pool of so many cells.
+pub const MAX_WORDS: usize = HEADER_WORDS + CELL_WORDS * MAX_CAPACITY;
 
 pub fn wide(x: u16) -> usize
     ensures { λ r. ⌜ (r ≡ x) × (r < 65536) ⌝ }

@@ -13,13 +13,11 @@ use model::Counted;
 use model::Decision;
 use model::Fault;
 use model::Listed;
+use model::MAX_GRANTS;
 use model::Outcome;
 
 // Room for the longest line: `list `, a count of up to twenty digits, 2,048 times a blank and five digits, the newline.
 pub const LINE_BYTES: usize = 12314;
-
-// As many numbers as a list has: document 01's highest C.
-const MOST: usize = 2048;
 
 // Puts a byte at a place of the line, and answers the next place.
 pub fn put_byte(out: &mut [u8], at: usize, b: u8) -> usize
@@ -55,7 +53,7 @@ pub fn put_number(out: &mut [u8], at: usize, n: usize) -> usize
 }
 
 // Document 01's number of a fault.
-fn fault_number(f: Fault) -> usize
+pub fn fault_number(f: Fault) -> usize
     ensures { λ r. ⌜ (r ≡ faultNumber f) × (r < 100) ⌝ }
 {
     match f {
@@ -109,7 +107,7 @@ fn least(a: usize, b: usize) -> usize
 fn shown(written: usize, numbers: &[u16]) -> usize
     ensures { λ r. ⌜ (take r (now (numbers .entry)) ≡ take written (take maxGrants (now (numbers .entry)))) × (r ≤ length (now (numbers .entry))) × (r ≤ maxGrants) ⌝ }
 {
-    least(least(written, MOST), numbers.len())
+    least(least(written, MAX_GRANTS), numbers.len())
 }
 
 // A line of a word and a number.

@@ -36,7 +36,8 @@ const GRANT: [Width; 9] = [
     Width::Word,
 ];
 
-const WORDS: [Width; 9] = [Width::Word; 9];
+// Numbers of 16 bits, as many as are asked for.
+pub const WORDS: [Width; 9] = [Width::Word; 9];
 
 fn wide(b: u8) -> u32
     ensures { λ r. ⌜ (r ≡ b) × (r < 256) ⌝ }
@@ -101,13 +102,13 @@ fn read_field(line: &[u8], from: usize, w: Width) -> Field
     within(value, w, at + 1)
 }
 
-// The numbers of a line, which has exactly `count`, of these widths.
-fn read_numbers(line: &[u8], widths: [Width; 9], count: usize) -> Numbers
+// The numbers of a line from a place on, where it has exactly `count`, of these widths.
+pub fn read_numbers(line: &[u8], from: usize, widths: [Width; 9], count: usize) -> Numbers
     requires { ⌜ (length widths ≡ 9) × (count ≤ 9) ⌝ }
-    ensures { λ r. ⌜ numbersIn r count ≡ numbers (take count widths) (fieldsFrom (now (line .entry)) 2) ⌝ }
+    ensures { λ r. ⌜ numbersIn r count ≡ numbers (take count widths) (fieldsFrom (now (line .entry)) from) ⌝ }
 {
     let mut values = [0u16; 9];
-    let mut at = NUMBERS;
+    let mut at = from;
     let mut i: usize = 0;
     while i < count {
         if line.len() < at {
@@ -151,7 +152,7 @@ fn box_at(values: [u16; 9], k: usize) -> Box
 fn grant_slip(line: &[u8]) -> Slip
     ensures { λ r. ⌜ r ≡ slipBy grantOf (numbers grantWidths (fieldsFrom (now (line .entry)) 2)) ⌝ }
 {
-    let n = read_numbers(line, GRANT, 9);
+    let n = read_numbers(line, NUMBERS, GRANT, 9);
     if !n.good {
         return Slip::Bad;
     }
@@ -167,7 +168,7 @@ fn grant_slip(line: &[u8]) -> Slip
 fn revoke_slip(line: &[u8]) -> Slip
     ensures { λ r. ⌜ r ≡ slipBy revokeOf (numbers revokeWidths (fieldsFrom (now (line .entry)) 2)) ⌝ }
 {
-    let n = read_numbers(line, WORDS, 1);
+    let n = read_numbers(line, NUMBERS, WORDS, 1);
     if !n.good {
         return Slip::Bad;
     }
@@ -178,7 +179,7 @@ fn revoke_slip(line: &[u8]) -> Slip
 fn list_slip(line: &[u8]) -> Slip
     ensures { λ r. ⌜ r ≡ slipBy listOf (numbers boxWidths (fieldsFrom (now (line .entry)) 2)) ⌝ }
 {
-    let n = read_numbers(line, WORDS, 6);
+    let n = read_numbers(line, NUMBERS, WORDS, 6);
     if !n.good {
         return Slip::Bad;
     }
@@ -189,7 +190,7 @@ fn list_slip(line: &[u8]) -> Slip
 fn decide_slip(line: &[u8]) -> Slip
     ensures { λ r. ⌜ r ≡ slipBy decideOf (numbers decideWidths (fieldsFrom (now (line .entry)) 2)) ⌝ }
 {
-    let n = read_numbers(line, WORDS, 3);
+    let n = read_numbers(line, NUMBERS, WORDS, 3);
     if !n.good {
         return Slip::Bad;
     }
@@ -204,7 +205,7 @@ fn decide_slip(line: &[u8]) -> Slip
 fn count_slip(line: &[u8]) -> Slip
     ensures { λ r. ⌜ r ≡ slipBy countOf (numbers [] (fieldsFrom (now (line .entry)) 2)) ⌝ }
 {
-    let n = read_numbers(line, WORDS, 0);
+    let n = read_numbers(line, NUMBERS, WORDS, 0);
     if !n.good {
         return Slip::Bad;
     }

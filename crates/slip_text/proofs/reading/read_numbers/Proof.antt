@@ -13,12 +13,12 @@ use Rattle.slip_text.proofs.reading.read_numbers.Statement.{statement}
 use Rattle.slip_text.proofs.reading.read_numbers.Tie as tie
 
 abbrev Inv-loop : tie.InvT-loop
-Inv-loop line count widths values₀ at₀ i₀ values at i =
+Inv-loop line from count widths values₀ at₀ i₀ values at i =
     (i ≤ count) × (length values ≡ 9) × (length widths ≡ 9) × (count ≤ 9)
-    × (numbersGoing (take count widths) line values i at ≡ numbers (take count widths) (fieldsFrom line 2))
+    × (numbersGoing (take count widths) line values i at ≡ numbers (take count widths) (fieldsFrom line from))
 
 abbrev μ-loop : tie.MeasureT-loop
-μ-loop line count widths values₀ at₀ i₀ values at i = count - i
+μ-loop line from count widths values₀ at₀ i₀ values at i = count - i
 
 loop-holds : tie.Need-loop-holds Inv-loop μ-loop
 loop-holds c = (search needs, refl, c .before .pre .0, c .before .pre .1, numbers-start _ _ _ _)
@@ -75,7 +75,7 @@ returns-3 : tie.Need-returns-3 Inv-loop μ-loop
 returns-3 c =
     let l = c .before .loop in
     let a = c .before .before .before .args in
-    numbers-end (a .t2) _ (l .values) (a .count) (l .i) (l .at) (omega arith) (omega arith) ∙ l .inv .4
+    numbers-end (a .t3) _ (l .values) (a .count) (l .i) (l .at) (omega arith) (omega arith) ∙ l .inv .4
 
 pub read-numbers-spec : {M : Type 1} → statement M
 read-numbers-spec =

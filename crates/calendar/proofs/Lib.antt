@@ -1,0 +1,3 @@
+-- Laws of days.
+pub mod CalendarLaws
+pub mod CalendarCases

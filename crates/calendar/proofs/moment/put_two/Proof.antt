@@ -1,0 +1,44 @@
+-- `moment::put_two` meets its contract: one digit after the other. Assumes nothing.
+use Rattle.slip_text.proofs.PutLaws.{put-then}
+use borrow.Author.Needs.{needs}
+use Rattle.calendar.proofs.moment.put_two.Statement.{statement}
+use Rattle.calendar.proofs.moment.put_two.Tie as tie
+
+cast-put-byte : tie.Need-cast-put-byte
+cast-put-byte c = search needs
+
+add-put-byte : tie.Need-add-put-byte
+add-put-byte c = search needs
+
+put-byte-requires : tie.Need-put-byte-requires
+put-byte-requires c κs = search needs
+
+cast-put-byte-2 : tie.Need-cast-put-byte-2
+cast-put-byte-2 c = search needs
+
+add-put-byte-2 : tie.Need-add-put-byte-2
+add-put-byte-2 c = search needs
+
+put-byte-requires-2 : tie.Need-put-byte-requires-2
+put-byte-requires-2 c κs = search needs
+
+same-length : tie.Need-same-length
+same-length c = search needs
+
+returns : tie.Need-returns
+returns c =
+    let last = c .before .before in
+    put-then (last .before .before .before .before .put-byte .ensures) (last .put-byte2 .ensures)
+
+pub put-two-spec : {M : Type 1} → statement M
+put-two-spec =
+    tie.close
+    (tie.spec
+    cast-put-byte
+    add-put-byte
+    put-byte-requires
+    cast-put-byte-2
+    add-put-byte-2
+    put-byte-requires-2
+    same-length
+    returns)

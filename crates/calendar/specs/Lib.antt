@@ -1,0 +1,3 @@
+-- Days, and the day and time of a quarter.
+pub mod Calendar
+pub mod Moment

@@ -1,0 +1,2 @@
+-- Faults in words, computed.
+pub mod FaultTextCases

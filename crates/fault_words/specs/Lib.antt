@@ -1,0 +1,2 @@
+-- Faults in words.
+pub mod FaultText

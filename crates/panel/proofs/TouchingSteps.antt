@@ -1,0 +1,48 @@
+-- What is answered of a door and a quarter, test by test.
+--   touching-bad, touching-broken    the refusals, in their order
+--   touching-done                    the grant at the place asked for, or that there is none
+-- Assumes nothing.
+use Prim.Native.Nat.{ℕ}
+use mathlib.Core.Path.{_≡_, sym, ap, _∙_}
+use mathlib.Core.List.{List, map}
+use lib.ListN.{take}
+use Rattle.lists.specs.Sort.{sortBy}
+use Rattle.model.specs.declared.Box.{Box}
+use Rattle.model.specs.declared.Grant.{Grant}
+use Rattle.model.specs.declared.Fault.the-variants.{BadPool, BrokenLinks}
+use Rattle.model.specs.Refusal.{firstFault}
+use Rattle.geometry.specs.Region.{Region}
+use Rattle.geometry.specs.SearchRange.{rangeOfBox}
+use Rattle.pool.specs.Capacity.{poolCapacity}
+use Rattle.pool.specs.Cell.{grantAt}
+use Rattle.index.specs.declared.hits.Hits.{Hits}
+use Rattle.index.specs.declared.hits.Hits.the-variants.{Broken, Found}
+use Rattle.index.specs.Hits.{HitsFound}
+use Rattle.index.specs.Order.{lookOrder}
+use Rattle.index.proofs.HitsLaws.{broken-search, found-hits}
+use Rattle.index.proofs.RefusalSteps.{pool-refused, pool-taken}
+use Rattle.panel.specs.declared.touching.Touching.{Touching}
+use Rattle.panel.specs.declared.touching.Touching.the-variants.{Refused}
+use Rattle.panel.specs.Touching.{doorBox, placed, touchingAt}
+
+module _ (w : List ℕ) (door quarter i : ℕ) {c : ℕ} (e : c ≡ poolCapacity w) where
+  pub touching-bad : c ≡ 0 → Refused BadPool ≡ touchingAt w door quarter i
+  unfolding touchingAt lookOrder firstFault
+  touching-bad z = rw (pool-refused w e z)
+
+  module _ (n : ¬ (c ≡ 0)) {b : Box} {q : Region} (asked : b ≡ doorBox door quarter) (a : q ≡ rangeOfBox b) where
+    range : q ≡ rangeOfBox (doorBox door quarter)
+    range = a ∙ ap rangeOfBox asked
+
+    module _ (h : List ℕ) {r : Hits} (f : HitsFound w q h r) where
+      pub touching-broken : r ≡ Broken → Refused BrokenLinks ≡ touchingAt w door quarter i
+      unfolding touchingAt lookOrder firstFault
+      touching-broken met = rw (pool-taken w e n .right, broken-search w range h f met)
+
+      pub touching-done : {found : ℕ} → r ≡ Found found → {t : Touching} → t ≡ placed (sortBy (λ g. g .number) (map (grantAt w) (take found h))) i
+          → t ≡ touchingAt w door quarter i
+      unfolding touchingAt lookOrder firstFault
+      touching-done unmet {t} done =
+          let at = found-hits w range h f unmet in
+          rw (pool-taken w e n .right, at .unbroken)
+          (done ∙ ap (λ (ks : List ℕ). placed (sortBy (λ (g : Grant). g .number) (map (grantAt w) ks)) i) (sym (at .found)))

@@ -1,0 +1,59 @@
+-- `rows::print_times` meets its contract: piece by piece. Assumes nothing.
+use native.Mathlib.Omega.{arith}
+use Rattle.slip_text.proofs.PutLaws.{put-then, put-line}
+use borrow.Author.Needs.{needs}
+use Rattle.panel.proofs.rows.print_times.Statement.{statement}
+use Rattle.panel.proofs.rows.print_times.Tie as tie
+
+slice-aggregate-put-text : tie.Need-slice-aggregate-put-text
+slice-aggregate-put-text c = search needs
+
+put-text-requires : tie.Need-put-text-requires
+put-text-requires c κs = search needs
+
+wide-requires : tie.Need-wide-requires
+wide-requires c κs = search needs
+
+put-moment-requires : tie.Need-put-moment-requires
+put-moment-requires c κs = search needs
+
+slice-aggregate-put-text-2 : tie.Need-slice-aggregate-put-text-2
+slice-aggregate-put-text-2 c = search needs
+
+put-text-requires-2 : tie.Need-put-text-requires-2
+put-text-requires-2 c κs = search needs
+
+quarter-after-requires : tie.Need-quarter-after-requires
+quarter-after-requires c κs = search needs
+
+put-moment-requires-2 : tie.Need-put-moment-requires-2
+put-moment-requires-2 c κs = search needs
+
+put-byte-requires : tie.Need-put-byte-requires
+put-byte-requires c κs = search needs
+
+returns : tie.Need-returns
+returns c =
+    let end = c .before .before in
+    let until = end .before .before .before in
+    let from = until .before .before .before in
+    let text = from .before .before .before in
+    rw (← from .before .wide .ensures .0, ← end .before .quarter-after .ensures .0)
+    (put-line
+    (put-then (put-then (text .put-text .ensures) (put-then (from .put-moment .ensures) (put-then (until .put-text2 .ensures) (end .put-moment2 .ensures)))) (c .put-byte .ensures))
+    (omega (arith, text .put-text .ensures .ends, from .put-moment .ensures .ends, until .put-text2 .ensures .ends, end .put-moment2 .ensures .ends, c .put-byte .ensures .ends, c .put-byte .kept .0)))
+
+pub print-times-spec : {M : Type 1} → statement M
+print-times-spec =
+    tie.close
+    (tie.spec
+    slice-aggregate-put-text
+    put-text-requires
+    wide-requires
+    put-moment-requires
+    slice-aggregate-put-text-2
+    put-text-requires-2
+    quarter-after-requires
+    put-moment-requires-2
+    put-byte-requires
+    returns)

@@ -1,0 +1,74 @@
+-- A grant as a line of a table, and the days and times that the panel shows.
+--   grantRow g                    number, rank, staff, doors and quarters, then `opens` or `bars`
+--   touchingRow g standing base   number, rank, staff and last quarter, when the grant ends, `opens` or `bars`, then how far it stands
+--   momentNote base q             the day and time at which a quarter starts, to stand behind its number
+--   timesRow g base               from when until when the grant holds
+--   shownBase base                the base day that these count from: one of a year above 9999, which has no four digits, counts as unknown
+--   endOf g                       the quarter at whose start the grant ends: the one after its last, as both ends belong to it
+-- Assumes nothing: these are definitions.
+use Prim.Native.Nat.{ℕ, _+_}
+use mathlib.Core.Bool.{cond}
+use mathlib.Core.List.{List, [], _∷_, _++_}
+use lib.Dec.{leb}
+use Rattle.model.specs.declared.Kind.{Kind}
+use Rattle.model.specs.declared.Kind.the-variants.{Bars, Opens}
+use Rattle.model.specs.declared.Grant.{Grant}
+use Rattle.model.specs.Box.{boxValues}
+use Rattle.slip_text.specs.Ascii.{ascii}
+use Rattle.slip_text.specs.Text.{line}
+use Rattle.standing.specs.declared.Standing.{Standing}
+use Rattle.standing.specs.declared.Standing.the-variants.{Whole, Partly, Nowhere}
+use Rattle.calendar.specs.Calendar.{lastYear}
+use Rattle.calendar.specs.Moment.{momentText}
+use Rattle.calendar.specs.declared.Base.{Base}
+use Rattle.calendar.specs.declared.Base.the-variants.{Unknown, Day}
+use Rattle.panel.specs.Columns.{columns}
+
+unfoldable pub shownBase : Base → Base
+shownBase Unknown = Unknown
+shownBase (Day d) = cond (leb (d .year) lastYear) (Day d) Unknown
+
+abbrev pub endOf : Grant → ℕ
+endOf g = g .bounds .«quarter_to» + 1
+
+abbrev pub kindText : Kind → List ℕ
+kindText Bars = ascii "bars"
+kindText Opens = ascii "opens"
+
+abbrev pub standingText : Standing → List ℕ
+standingText Whole = []
+standingText Partly = ascii ", in part"
+standingText Nowhere = ascii ", OVERRIDDEN"
+
+-- a quarter's day and time in a column of its own, once it is known which base day is shown
+abbrev pub momentColumn : Base → ℕ → List ℕ
+momentColumn Unknown q = ascii "-               "
+momentColumn (Day d) q = momentText d q
+
+abbrev pub noteAfter : Base → ℕ → List ℕ
+noteAfter Unknown q = []
+noteAfter (Day d) q = ascii " (" ++ momentText d q ++ ascii ")"
+
+abbrev pub timesFrom : Base → Grant → List ℕ
+timesFrom Unknown g = []
+timesFrom (Day d) g = line (ascii "from " ++ momentText d (g .bounds .«quarter_from») ++ ascii " until " ++ momentText d (endOf g))
+
+abbrev pub grantRow : Grant → List ℕ
+grantRow g = line (columns (g .number ∷ g .rank ∷ boxValues (g .bounds)) ++ ascii "  " ++ kindText (g .kind))
+
+abbrev pub touchingRow : Grant → Standing → Base → List ℕ
+touchingRow g standing base =
+    let b = g .bounds in
+    line
+    (columns (g .number ∷ g .rank ∷ b .«staff_from» ∷ b .«staff_to» ∷ b .«quarter_to» ∷ [])
+    ++ ascii "  "
+    ++ momentColumn (shownBase base) (endOf g)
+    ++ ascii "  "
+    ++ kindText (g .kind)
+    ++ standingText standing)
+
+abbrev pub momentNote : Base → ℕ → List ℕ
+momentNote base q = noteAfter (shownBase base) q
+
+abbrev pub timesRow : Grant → Base → List ℕ
+timesRow g base = timesFrom (shownBase base) g

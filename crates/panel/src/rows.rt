@@ -1,0 +1,173 @@
+// A grant as a line of a table, and the days and times beside it (specs/Rows), put from the start of a lent line.
+// Each public function answers how many bytes it put; any grant and any base day is taken.
+ghost use mathlib.Core.Path.{_≡_};
+ghost use Prim.Native.Nat.{_+_, _≤_};
+ghost use lib.ListN.{length, take};
+ghost use Rattle.model.specs.Values.{wordValues};
+ghost use Rattle.slip_text.specs.Put.{Put, Counts};
+ghost use Rattle.calendar.specs.Calendar.{lastYear};
+ghost use Rattle.calendar.specs.Moment.{momentBytes};
+ghost use Rattle.panel.specs.Rows.{shownBase, kindText, standingText, momentColumn, noteAfter, timesFrom, grantRow, touchingRow, momentNote, timesRow};
+use crate::columns::put_columns;
+use calendar::Base;
+use calendar::Date;
+use calendar::moment::put_moment;
+use model::Grant;
+use model::Kind;
+use pool::layout::wide;
+use slip_text::printing::put_byte;
+use slip_text::printing::put_text;
+use standing::Standing;
+
+// Room for the longest row.
+pub const ROW_BYTES: usize = 192;
+
+// The base day, unless its year has more than four digits.
+fn shown_base(base: Base) -> Base
+    ensures { λ r. ⌜ r ≡ shownBase base ⌝ }
+{
+    match base {
+        Base::Unknown => Base::Unknown,
+        Base::Day(d) => {
+            if d.year <= 9999 {
+                return Base::Day(d);
+            }
+            Base::Unknown
+        }
+    }
+}
+
+// The quarter after one.
+fn quarter_after(quarter: u16) -> usize
+    ensures { λ r. ⌜ (r ≡ quarter + 1) × (r ≤ wordValues) ⌝ }
+{
+    wide(quarter) + 1
+}
+
+fn put_kind(out: &mut [u8], at: usize, kind: Kind) -> usize
+    requires { ⌜ at + 5 ≤ length (now out) ⌝ }
+    ensures { λ r. ⌜ Put (now (out .entry)) at (kindText kind) r (now (out .exit)) × (r ≤ at + 5) ⌝ }
+{
+    match kind {
+        Kind::Bars => put_text(out, at, b"bars"),
+        Kind::Opens => put_text(out, at, b"opens"),
+    }
+}
+
+fn put_standing(out: &mut [u8], at: usize, standing: Standing) -> usize
+    requires { ⌜ at + 64 ≤ length (now out) ⌝ }
+    ensures { λ r. ⌜ Put (now (out .entry)) at (standingText standing) r (now (out .exit)) × (r ≤ at + 64) ⌝ }
+{
+    match standing {
+        Standing::Whole => at,
+        Standing::Partly => put_text(out, at, b", in part"),
+        Standing::Nowhere => put_text(out, at, b", OVERRIDDEN"),
+    }
+}
+
+// A quarter's day and time in a column of its own.
+fn put_moment_column(out: &mut [u8], at: usize, base: Base, quarter: usize) -> usize
+    requires { ⌜ (at + momentBytes ≤ length (now out)) × (quarter ≤ wordValues) ⌝ }
+    ensures { λ r. ⌜ Put (now (out .entry)) at (momentColumn (shownBase base) quarter) r (now (out .exit)) × (r ≡ at + momentBytes) ⌝ }
+{
+    let shown = shown_base(base);
+    match shown {
+        Base::Unknown => put_text(out, at, b"-               "),
+        Base::Day(d) => put_moment(out, at, d, quarter),
+    }
+}
+
+// A grant in the table of all grants.
+pub fn grant_row(g: Grant, out: &mut [u8; ROW_BYTES]) -> usize
+    ensures { λ r. ⌜ take r (now (out .exit)) ≡ grantRow g ⌝ }
+    ensures { λ r. ⌜ Counts r (now (out .exit)) ⌝ }
+{
+    let b = g.bounds;
+    let kind = g.kind;
+    let values = [
+        g.number,
+        g.rank as u16,
+        b.staff_from,
+        b.staff_to,
+        b.door_from,
+        b.door_to,
+        b.quarter_from,
+        b.quarter_to,
+    ];
+    let gap = put_columns(out, 0, &values);
+    let word = put_text(out, gap, b"  ");
+    let end = put_kind(out, word, kind);
+    put_byte(out, end, b'\n')
+}
+
+// A grant in the table of those that touch a door and a quarter: who may open it, until when, and how far that stands.
+pub fn touching_row(g: Grant, standing: Standing, base: Base, out: &mut [u8; ROW_BYTES]) -> usize
+    ensures { λ r. ⌜ take r (now (out .exit)) ≡ touchingRow g standing base ⌝ }
+    ensures { λ r. ⌜ Counts r (now (out .exit)) ⌝ }
+{
+    let b = g.bounds;
+    let kind = g.kind;
+    let values = [
+        g.number,
+        g.rank as u16,
+        b.staff_from,
+        b.staff_to,
+        b.quarter_to,
+    ];
+    let gap = put_columns(out, 0, &values);
+    let until = put_text(out, gap, b"  ");
+    let next = put_moment_column(out, until, base, quarter_after(b.quarter_to));
+    let word = put_text(out, next, b"  ");
+    let but = put_kind(out, word, kind);
+    let end = put_standing(out, but, standing);
+    put_byte(out, end, b'\n')
+}
+
+// A quarter's day and time, from a base day that can be shown.
+fn print_note(base: Date, quarter: usize, out: &mut [u8; ROW_BYTES]) -> usize
+    requires { ⌜ (base .year ≤ lastYear) × (quarter ≤ wordValues) ⌝ }
+    ensures { λ r. ⌜ take r (now (out .exit)) ≡ noteAfter (Base.Day base) quarter ⌝ }
+    ensures { λ r. ⌜ Counts r (now (out .exit)) ⌝ }
+{
+    let at = put_text(out, 0, b" (");
+    let end = put_moment(out, at, base, quarter);
+    put_byte(out, end, b')')
+}
+
+// The day and time at which a quarter starts, to stand behind its number; nothing where no base day is known.
+pub fn moment_text(base: Base, quarter: u16, out: &mut [u8; ROW_BYTES]) -> usize
+    ensures { λ r. ⌜ take r (now (out .exit)) ≡ momentNote base quarter ⌝ }
+    ensures { λ r. ⌜ Counts r (now (out .exit)) ⌝ }
+{
+    let shown = shown_base(base);
+    match shown {
+        Base::Unknown => 0,
+        Base::Day(d) => print_note(d, wide(quarter), out),
+    }
+}
+
+// When a grant holds, from a base day that can be shown.
+fn print_times(base: Date, g: Grant, out: &mut [u8; ROW_BYTES]) -> usize
+    requires { ⌜ base .year ≤ lastYear ⌝ }
+    ensures { λ r. ⌜ take r (now (out .exit)) ≡ timesFrom (Base.Day base) g ⌝ }
+    ensures { λ r. ⌜ Counts r (now (out .exit)) ⌝ }
+{
+    let b = g.bounds;
+    let from = put_text(out, 0, b"from ");
+    let gap = put_moment(out, from, base, wide(b.quarter_from));
+    let until = put_text(out, gap, b" until ");
+    let end = put_moment(out, until, base, quarter_after(b.quarter_to));
+    put_byte(out, end, b'\n')
+}
+
+// From when until when a grant holds; nothing where no base day is known.
+pub fn times_row(g: Grant, base: Base, out: &mut [u8; ROW_BYTES]) -> usize
+    ensures { λ r. ⌜ take r (now (out .exit)) ≡ timesRow g base ⌝ }
+    ensures { λ r. ⌜ Counts r (now (out .exit)) ⌝ }
+{
+    let shown = shown_base(base);
+    match shown {
+        Base::Unknown => 0,
+        Base::Day(d) => print_times(d, g, out),
+    }
+}

@@ -1,0 +1,83 @@
+// Who may open this door at this quarter: the grants that touch both, ascending by number, a grant at a time, each with how far it stands
+// among them (specs/Touching). Refuses by 1, then 9, as decide does. Searches afresh for each, so that nothing is kept between two rows.
+ghost use mathlib.Core.Path.{_≡_};
+ghost use mathlib.Core.List.{map};
+ghost use lib.ListN.{take};
+ghost use Rattle.lists.specs.Sort.{sortBy};
+ghost use Rattle.pool.specs.Cell.{grantAt};
+ghost use Rattle.index.specs.Hits.{CellsAt};
+ghost use Rattle.panel.specs.Touching.{doorBox, placed, touchingAt};
+use adt::search::HitCells;
+use file_calls::sorted_cells::sort_cells;
+use geometry::axis::TOP;
+use geometry::range::range_of_box;
+use index::hits::Hits;
+use index::hits::find_hits;
+use model::Box;
+use model::Fault;
+use model::Grant;
+use pool::cell::grant_at;
+use pool::layout::MAX_CAPACITY;
+use pool::layout::capacity;
+use pool::layout::wide;
+use standing::Standing;
+use standing::overriding::standing_among;
+
+pub enum Touching {
+    Is { grant: Grant, standing: Standing },
+    End,
+    Refused(Fault),
+}
+
+// One door and one quarter, with the staff axis free.
+fn door_box(door: u16, quarter: u16) -> Box
+    ensures { λ r. ⌜ r ≡ doorBox door quarter ⌝ }
+{
+    Box {
+        staff_from: 0,
+        staff_to: TOP,
+        door_from: door,
+        door_to: door,
+        quarter_from: quarter,
+        quarter_to: quarter,
+    }
+}
+
+// The grant in the i-th of the hits' cells, and how far it stands among all of them.
+fn placed(pool: &[u16], hits: &HitCells, found: usize, i: usize) -> Touching
+    requires { ⌜ CellsAt (now pool) (now hits) found ⌝ }
+    ensures { λ r. ⌜ r ≡ placed (map (grantAt (now (pool .entry))) (take found (now (hits .entry)))) i ⌝ }
+{
+    if found <= i {
+        return Touching::End;
+    }
+    let grant = grant_at(pool, wide(hits[i]));
+    let standing = standing_among(pool, hits, found, grant);
+    Touching::Is { grant, standing }
+}
+
+// The same, of the hits' cells in the order of their grants' numbers.
+fn sorted_placed(pool: &[u16], hits: &HitCells, found: usize, i: usize) -> Touching
+    requires { ⌜ CellsAt (now pool) (now hits) found ⌝ }
+    ensures { λ r. ⌜ r ≡ placed (sortBy (λ g. g .number) (map (grantAt (now (pool .entry))) (take found (now (hits .entry))))) i ⌝ }
+{
+    let mut sorted = [0u16; MAX_CAPACITY];
+    sort_cells(pool, hits, found, &mut sorted);
+    placed(pool, &sorted, found, i)
+}
+
+// The grant at place i, from 0, of those that touch the door and the quarter, and how far it stands among them; End past the last.
+pub fn touching_at(pool: &[u16], door: u16, quarter: u16, i: usize) -> Touching
+    ensures { λ r. ⌜ r ≡ touchingAt (now (pool .entry)) door quarter i ⌝ }
+{
+    let cells = capacity(pool);
+    if cells == 0 {
+        return Touching::Refused(Fault::BadPool);
+    }
+    let range = range_of_box(door_box(door, quarter));
+    let mut hits = [0u16; MAX_CAPACITY];
+    let Hits::Found(found) = find_hits(pool, cells, &range, &mut hits) else {
+        return Touching::Refused(Fault::BrokenLinks);
+    };
+    sorted_placed(pool, &hits, found, i)
+}

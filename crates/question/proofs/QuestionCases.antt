@@ -1,0 +1,112 @@
+-- Numbers, days and lines, computed.
+--   number-cases       leading zeros, the highest value, one more, a sign, blanks, nothing
+--   day-cases          a day, one that no month has, a month and a day out of their places, a year 0
+--   quarter-cases      the base day's first quarter, minutes within one, the next day, a year on, the day before, no minute, no base day
+--   question-cases     each form, with numbers and with a day and time
+--   bad-questions      two blanks, a blank at either end, a number too high, one too many or too few, capitals, a word alone
+-- Assumes nothing.
+use Prim.Native.Nat.{ℕ}
+use Prim.Native.String.{String}
+use mathlib.Core.Path.{_≡_, refl}
+use mathlib.Core.Bool.{Bool, true, false}
+use mathlib.Core.List.{List, [], _∷_}
+use Rattle.lists.specs.Tests.{every, sameNumbers}
+use Rattle.slip_text.specs.Ascii.{ascii}
+use Rattle.slip_text.specs.Decimal.{isNumber, valueAfter, decimal}
+use Rattle.slip_text.specs.Fields.{fields}
+use Rattle.slip_text.specs.Slip.{numbers}
+use Rattle.calendar.specs.declared.Date.{Date}
+use Rattle.calendar.specs.Calendar.{leapYear, monthDays, isDate, nextDay, dateAfter}
+use Rattle.question.specs.declared.Number.the-variants as number
+use Rattle.question.specs.declared.Day.{Day}
+use Rattle.question.specs.declared.Day.the-variants as day
+use Rattle.question.specs.declared.Quarter.{Quarter}
+use Rattle.question.specs.declared.Quarter.the-variants as quarter
+use Rattle.calendar.specs.declared.Base.{Base}
+use Rattle.calendar.specs.declared.Base.the-variants as base
+use Rattle.question.specs.declared.Question.{Question}
+use Rattle.question.specs.declared.Question.the-variants as question
+use Rattle.question.specs.Number.{numberOf}
+use Rattle.question.specs.Day.{dayForm, dateOf, dayIn}
+use Rattle.question.specs.Quarter.{momentForm, sameDate, daysFrom, quarterAt, timeOf, quarterOf}
+use Rattle.question.specs.Word.{begins}
+use Rattle.question.specs.Question.{marked, timed, plainQuestion, timedQuestion, questionOf}
+
+abbrev on : ℕ → ℕ → ℕ → Date
+on y m d = record { year = y; month = m; day = d }
+
+pub number-cases : (numberOf (ascii "007") ≡ number.Value 7)
+    × (numberOf (ascii "65535") ≡ number.Value 65535)
+    × (numberOf (ascii "65536") ≡ number.Bad)
+    × (numberOf (ascii "-7") ≡ number.Bad)
+    × (numberOf (ascii "7 ") ≡ number.Bad)
+    × (numberOf (ascii "7 8") ≡ number.Bad)
+    × (numberOf (ascii "") ≡ number.Bad)
+unfolding numberOf decimal isNumber valueAfter every
+number-cases = (refl, refl, refl, refl, refl, refl, refl)
+
+pub day-cases : (dayIn (ascii "2028-02-29") ≡ day.Is (on 2028 2 29))
+    × (dayIn (ascii "2026-02-29") ≡ day.Bad)
+    × (dayIn (ascii "2026-13-01") ≡ day.Bad)
+    × (dayIn (ascii "2026-1-010") ≡ day.Bad)
+    × (dayIn (ascii "2026-01-011") ≡ day.Bad)
+    × (dayIn (ascii "2026/01/01") ≡ day.Bad)
+    × (dayIn (ascii "0000-01-01") ≡ day.Bad)
+    × (dayIn (ascii "0001-01-01") ≡ day.Is (on 1 1 1))
+unfolding dayIn dayForm dateOf isDate monthDays leapYear numberOf decimal isNumber valueAfter every
+day-cases = (refl, refl, refl, refl, refl, refl, refl, refl)
+
+abbrev Quarters : Date → String → Quarter → Type 0
+Quarters base t q = quarterOf base (ascii t) ≡ q
+
+pub quarter-cases : Quarters (on 2026 1 1) "2026-01-01 00:00" (quarter.Is 0)
+    × Quarters (on 2026 1 1) "2026-01-01 10:14" (quarter.Is 40)
+    × Quarters (on 2026 1 1) "2026-01-01 23:59" (quarter.Is 95)
+    × Quarters (on 2026 1 1) "2026-01-02 00:15" (quarter.Is 97)
+    × Quarters (on 2026 2 28) "2026-03-01 00:00" (quarter.Is 96)
+    × Quarters (on 2026 1 1) "2026-01-01 24:00" quarter.Bad
+    × Quarters (on 2026 1 1) "2026-01-01 10:60" quarter.Bad
+    × Quarters (on 2026 1 1) "2026-01-01  0:00" quarter.Bad
+    × Quarters (on 2026 1 1) "2026-01-01T10:00" quarter.Bad
+    × Quarters (on 2026 2 30) "2026-03-01 00:00" quarter.Bad
+unfolding quarterOf momentForm timeOf quarterAt daysFrom sameDate dateAfter nextDay dayIn dayForm dateOf isDate monthDays leapYear numberOf decimal isNumber valueAfter every
+quarter-cases = (refl, refl, refl, refl, refl, refl, refl, refl, refl, refl)
+
+abbrev newYear : Base
+newYear = base.Day (on 2026 1 1)
+
+abbrev Asks : Base → String → Question → Type 0
+Asks b t q = questionOf b (ascii t) ≡ q
+
+pub question-cases : Asks newYear "who 12 40" (question.Who 12 40)
+    × Asks base.Unknown "who 12 40" (question.Who 12 40)
+    × Asks newYear "may 150 12 40" (question.May 150 12 40)
+    × Asks newYear "who 12 2026-01-01 10:00" (question.Who 12 40)
+    × Asks newYear "may 150 12 2026-01-02 00:20" (question.May 150 12 97)
+    × Asks base.Unknown "who 12 2026-01-01 10:00" question.NoBase
+    × Asks base.Unknown "may 150 12 2026-01-01 10:00" question.NoBase
+    × Asks newYear "" question.More
+    × Asks newYear "help" question.Help
+    × Asks newYear "quit" question.Quit
+unfolding questionOf timed marked plainQuestion timedQuestion begins sameNumbers numbers fields quarterOf momentForm timeOf quarterAt daysFrom sameDate dateAfter nextDay dayIn dayForm dateOf isDate monthDays leapYear numberOf decimal isNumber valueAfter every
+question-cases = (refl, refl, refl, refl, refl, refl, refl, refl, refl, refl)
+
+abbrev isBad : Question → Bool
+isBad (question.Who door at) = false
+isBad (question.May staff door at) = false
+isBad question.More = false
+isBad question.Help = false
+isBad question.Quit = false
+isBad question.NoBase = false
+isBad question.Bad = true
+
+abbrev badLines : List String
+badLines =
+    "who  12 40" ∷ "who 12  40" ∷ " who 12 40" ∷ "who 12 40 " ∷ "who 12 65536" ∷ "who 65536 40" ∷ "who 12" ∷ "who 12 40 1" ∷ "who" ∷ "who "
+    ∷ "Who 12 40" ∷ "may 150 12" ∷ "may 150 12 40 1" ∷ "may" ∷ "help me" ∷ "HELP" ∷ "quit " ∷ " "
+    ∷ "who 12 2026-01-01" ∷ "who 12 2026-01-01 10:0" ∷ "who 12 2026-02-29 10:00" ∷ "who 12  2026-01-01 10:00" ∷ "who 2026-01-01 10:00"
+    ∷ "who 12 40 2026-01-01 10:00" ∷ "may 12 2026-01-01 10:00" ∷ "2026-01-01 10:00" ∷ "who 12 2026-01-01 24:00" ∷ []
+
+pub bad-questions : every (λ t. isBad (questionOf newYear (ascii t))) badLines ≡ true
+unfolding questionOf timed marked plainQuestion timedQuestion begins sameNumbers numbers fields quarterOf momentForm timeOf quarterAt daysFrom sameDate dateAfter nextDay dayIn dayForm dateOf isDate monthDays leapYear numberOf decimal isNumber valueAfter every
+bad-questions = refl

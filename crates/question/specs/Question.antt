@@ -1,0 +1,98 @@
+-- What an attendant's line asks.
+--   `who DOOR QUARTER`, `may STAFF DOOR QUARTER`, in numbers with one blank between them; a day and time, `YYYY-MM-DD HH:MM`, may stand for QUARTER;
+--   an empty line, `help`, `quit`.
+--   ending bs            the last sixteen bytes of a line
+--   marked bs            the dashes and the colon of a day and time are in their places
+--   timed bs             the line ends in a blank and what has the form of a day and time
+--   front bs             such a line without the blank and the day and time
+--   afterWord bs         the fields after a word of three letters and a blank
+--   whoOf, mayOf, whoAt, mayAt     the question of a word's values, with the quarter among them, and with the quarter known
+--   plainQuestion bs     what a line asks that gives its quarter as a number, or none
+--   timedQuestion q bs   what the front of a line asks whose day and time are in the quarter q
+--   questionOf base bs   what a line asks; Bad for a line of any other form, and for one of more than `lineBytes`;
+--                        NoBase for a line with a day and time where no base day is known
+-- Assumes nothing: these are definitions.
+use Prim.Native.Nat.{ℕ, _-_}
+use mathlib.Core.Bool.{Bool, cond, _&&_}
+use mathlib.Core.List.{List, [], _∷_}
+use mathlib.Core.Option.{Option, none, some}
+use lib.Dec.{eqb, leb}
+use lib.ListN.{length, getD, take, drop}
+use Rattle.lists.specs.Tests.{sameNumbers}
+use Rattle.slip_text.specs.declared.Width.the-variants.{Word}
+use Rattle.slip_text.specs.Ascii.{ascii, blank}
+use Rattle.slip_text.specs.Fields.{fields}
+use Rattle.slip_text.specs.Slip.{numbers}
+use Rattle.calendar.specs.Moment.{dash, colon, momentBytes}
+use Rattle.calendar.specs.declared.Base.{Base}
+use Rattle.calendar.specs.declared.Base.the-variants as base
+use Rattle.question.specs.declared.Quarter.{Quarter}
+use Rattle.question.specs.declared.Quarter.the-variants as quarter
+use Rattle.question.specs.declared.Question.{Question}
+use Rattle.question.specs.declared.Question.the-variants as question
+use Rattle.question.specs.Day.{part}
+use Rattle.question.specs.Quarter.{quarterOf}
+use Rattle.question.specs.Word.{begins}
+
+-- how long a line may be
+abbrev pub lineBytes : ℕ
+lineBytes = 4096
+
+abbrev pub ending : List ℕ → List ℕ
+ending bs = part (length bs - momentBytes) momentBytes bs
+
+unfoldable pub marked : List ℕ → Bool
+marked bs = eqb (getD bs 4 0) dash && eqb (getD bs 7 0) dash && eqb (getD bs 13 0) colon
+
+unfoldable pub timed : List ℕ → Bool
+timed bs = leb 17 (length bs) && eqb (getD bs (length bs - 17) 0) blank && marked (ending bs)
+
+abbrev pub front : List ℕ → List ℕ
+front bs = take (length bs - 17) bs
+
+abbrev pub afterWord : List ℕ → List (List ℕ)
+afterWord bs = fields (drop 4 bs)
+
+-- a question of the values, Bad where there are none
+abbrev pub questionBy : (List ℕ → Question) → Option (List ℕ) → Question
+questionBy ask none = question.Bad
+questionBy ask (some vs) = ask vs
+
+abbrev pub whoOf : List ℕ → Question
+whoOf vs = question.Who (getD vs 0 0) (getD vs 1 0)
+
+abbrev pub mayOf : List ℕ → Question
+mayOf vs = question.May (getD vs 0 0) (getD vs 1 0) (getD vs 2 0)
+
+-- the same where the quarter is known
+abbrev pub whoAt : ℕ → List ℕ → Question
+whoAt q vs = question.Who (getD vs 0 0) q
+
+abbrev pub mayAt : ℕ → List ℕ → Question
+mayAt q vs = question.May (getD vs 0 0) (getD vs 1 0) q
+
+unfoldable pub plainQuestion : List ℕ → Question
+plainQuestion bs =
+    cond (begins (ascii "who ") bs) (questionBy whoOf (numbers (Word ∷ Word ∷ []) (afterWord bs)))
+    (cond (begins (ascii "may ") bs) (questionBy mayOf (numbers (Word ∷ Word ∷ Word ∷ []) (afterWord bs)))
+    (cond (sameNumbers bs []) question.More
+    (cond (sameNumbers bs (ascii "help")) question.Help
+    (cond (sameNumbers bs (ascii "quit")) question.Quit question.Bad))))
+
+unfoldable pub timedQuestion : ℕ → List ℕ → Question
+timedQuestion q bs =
+    cond (begins (ascii "who ") bs) (questionBy (whoAt q) (numbers (Word ∷ []) (afterWord bs)))
+    (cond (begins (ascii "may ") bs) (questionBy (mayAt q) (numbers (Word ∷ Word ∷ []) (afterWord bs))) question.Bad)
+
+-- what the front of a line asks, by the quarter of its day and time
+abbrev pub quarterQuestion : Quarter → List ℕ → Question
+quarterQuestion (quarter.Is q) bs = timedQuestion q bs
+quarterQuestion quarter.Bad bs = question.Bad
+
+-- what a line with a day and time asks
+abbrev pub endedQuestion : Base → List ℕ → Question
+endedQuestion base.Unknown bs = question.NoBase
+endedQuestion (base.Day d) bs = quarterQuestion (quarterOf d (ending bs)) (front bs)
+
+unfoldable pub questionOf : Base → List ℕ → Question
+questionOf base bs = cond (leb (length bs) lineBytes) (cond (timed bs) (endedQuestion base bs) (plainQuestion bs)) question.Bad

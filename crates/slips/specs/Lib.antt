@@ -1,2 +1,0 @@
--- What the slip program goes by.
-pub mod Held

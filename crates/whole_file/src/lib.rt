@@ -1,0 +1,29 @@
+// Files read whole into lent bytes, and written whole or not at all: a new file beside the old one, renamed into its place once all its bytes
+// have reached the disk. A failure answers the system's error number, and leaves the old file as it was.
+ghost use mathlib.Core.Path.{_≡_};
+ghost use lib.ListN.{take};
+
+pub mod reading;
+pub mod writing;
+
+// The bytes read, at the start of the lent ones; or the system's error number.
+pub enum Read {
+    Bytes(usize),
+    Failed(i32),
+}
+
+// Written and in place; or the system's error number, and nothing changed.
+pub enum Stored {
+    Done,
+    Failed(i32),
+}
+
+// The first n bytes, or all where there are fewer: the part of lent bytes that holds what was read or written.
+pub fn first(bytes: &[u8], n: usize) -> &[u8]
+    ensures { λ r. ⌜ now r ≡ take n (now (bytes .entry)) ⌝ }
+{
+    if bytes.len() < n {
+        return bytes;
+    }
+    &bytes[..n]
+}
