@@ -1,0 +1,42 @@
+// The program of the three levels, Bank, Head Office and Match (document 00): a word for each job. It reads, prints and names files; what it
+// answers is decided in the libraries, which are proved.
+mod file_words;
+
+use check::same;
+use file_words::FileWord;
+use file_words::on_file;
+
+// Does the job of a word.
+fn run(word: &[u8]) {
+    if same(word, b"slips") {
+        slip_loop::run();
+        return;
+    }
+    if same(word, b"panel") {
+        on_file(FileWord::Panel);
+        return;
+    }
+    if same(word, b"cut") {
+        office::cut::cut();
+        return;
+    }
+    if same(word, b"match") {
+        on_file(FileWord::Match);
+        return;
+    }
+    if same(word, b"check") {
+        on_file(FileWord::Check);
+        return;
+    }
+    if same(word, b"show") {
+        on_file(FileWord::Show);
+        return;
+    }
+    help::help(word);
+}
+
+fn main() {
+    let mut word = io::buffer();
+    let length = os::arg(1, &mut word);
+    run(&word[..length]);
+}
