@@ -4,39 +4,13 @@
 //!     compare --self-test [--seed N]             each wrong version of the plain implementation, and the history that shows it
 //!     compare --trace FILE [--seed N]            a trace of calls with their answers, to be replayed in C and Python
 
-mod answer;
-mod block_read;
-mod book;
-mod call;
-mod compare;
-mod damage;
-mod file;
-mod file_cases;
-mod grant;
-mod histories;
-mod honest;
-mod judge;
-mod layout;
-mod lent;
-mod marked;
-mod plain;
-mod product;
-mod random;
-mod required;
-mod scramble;
-mod scrambled;
-mod self_test;
-mod shrink;
-mod sound;
-mod styles;
-mod suite;
-mod trace;
-mod tree;
-mod walks;
-mod whole_run;
-mod words;
-mod wrong;
+mod cases;
+mod interface;
+mod library;
+mod oracle;
+mod report;
 
+use report::{self_test, trace, whole_run};
 use std::process::ExitCode;
 
 /// Rounds of the run in the test command, and of the longer one.

@@ -1,0 +1,131 @@
+//! Random grants and boxes of several styles: each run of calls keeps to one, so that grants meet each other.
+
+use crate::cases::random::Random;
+use crate::interface::grant::{Bounds, Grant, Span, EVERYTHING};
+
+/// Values at which something changes side.
+const ENDS: [u16; 10] = [0, 1, 2, 32766, 32767, 32768, 32769, 65533, 65534, 65535];
+
+#[derive(Clone, Copy)]
+enum Values {
+    Uniform,
+    Ends,
+    Few,
+    /// All but the lowest bits shared.
+    Prefix(u16),
+    Points,
+    OneBox(Bounds),
+    Wide,
+}
+
+#[derive(Clone, Copy)]
+enum Numbers {
+    Few(usize),
+    Uniform,
+    Ends,
+    /// Shared leading bits with one number, many or few of them.
+    Near(u16),
+}
+
+#[derive(Clone, Copy)]
+pub struct Style {
+    values: Values,
+    numbers: Numbers,
+    ranks: u8,
+}
+
+impl Style {
+    pub fn any(random: &mut Random, capacity: usize) -> Style {
+        let base = random.word();
+        let values = match random.below(7) {
+            0 => Values::Uniform,
+            1 => Values::Ends,
+            2 => Values::Few,
+            3 => Values::Prefix(base & 0xFFF0),
+            4 => Values::Points,
+            5 => Values::OneBox(Style::uniform().bounds(random)),
+            _ => Values::Wide,
+        };
+        let numbers = match random.below(4) {
+            0 => Numbers::Uniform,
+            1 => Numbers::Near(random.pick(&[base, 1, 32767, 32768, 65535])),
+            2 if capacity < ENDS.len() => Numbers::Ends,
+            _ => Numbers::Few(capacity * 2),
+        };
+        Style { values, numbers, ranks: random.pick(&[1, 3, 255]) }
+    }
+
+    pub fn uniform() -> Style {
+        Style { values: Values::Uniform, numbers: Numbers::Uniform, ranks: 255 }
+    }
+
+    /// One box and numbers that share ever more leading bits: the deepest trees.
+    pub fn deep(random: &mut Random) -> Style {
+        Style { values: Values::OneBox(EVERYTHING), numbers: Numbers::Near(random.word()), ranks: 2 }
+    }
+
+    fn value(&self, random: &mut Random) -> u16 {
+        match self.values {
+            Values::Uniform | Values::OneBox(_) | Values::Wide => random.word(),
+            Values::Ends => random.pick(&ENDS),
+            Values::Few | Values::Points => random.below(8) as u16,
+            Values::Prefix(base) => base | random.below(16) as u16,
+        }
+    }
+
+    pub fn span(&self, random: &mut Random) -> Span {
+        let (a, b) = (self.value(random), self.value(random));
+        match self.values {
+            Values::Points => (a, a),
+            Values::Wide => (a.min(b) / 4, a.max(b) / 4 * 3),
+            _ => (a.min(b), a.max(b)),
+        }
+    }
+
+    pub fn bounds(&self, random: &mut Random) -> Bounds {
+        match self.values {
+            Values::OneBox(bounds) => bounds,
+            _ => [self.span(random), self.span(random), self.span(random)],
+        }
+    }
+
+    /// A number from 1.
+    pub fn number(&self, random: &mut Random) -> u16 {
+        let number = match self.numbers {
+            Numbers::Few(end) => random.below(end) as u16 + 1,
+            Numbers::Uniform => random.word(),
+            Numbers::Ends => random.pick(&ENDS),
+            Numbers::Near(number) => number ^ (random.word() >> random.below(16)),
+        };
+        number.max(1)
+    }
+
+    pub fn grant(&self, random: &mut Random) -> Grant {
+        let rank = match self.ranks {
+            255 => random.byte(),
+            ranks => random.below(usize::from(ranks)) as u8,
+        };
+        let bounds = self.bounds(random);
+        Grant { number: self.number(random), rank, kind: random.below(2) as u8, bounds }
+    }
+
+    /// A point to ask at: any, or an end of a box.
+    pub fn point(&self, random: &mut Random) -> [u16; 3] {
+        self.bounds(random).map(|span| random.pick(&[span.0, span.1, span.0.saturating_sub(1), span.1.saturating_add(1)]))
+    }
+}
+
+/// Puts one or several faults into a grant that is to be an argument: number 0, kind above 1, a span reversed.
+pub fn spoil(random: &mut Random, grant: &mut Grant) {
+    let faults = 1 + random.below(7);
+    if faults & 1 != 0 {
+        grant.number = 0;
+    }
+    if faults & 2 != 0 {
+        grant.kind = random.byte() | 2;
+    }
+    if faults & 4 != 0 {
+        let span = &mut grant.bounds[random.below(3)];
+        *span = (span.0 | 1, span.0 & 0xFFFE);
+    }
+}

@@ -1,0 +1,85 @@
+//! Document 01's plain book: the live grants in a plain list, every question a scan of it.
+
+use crate::interface::answer::{fault, Fault};
+use crate::interface::grant::{Bounds, Grant, Span, DOORS};
+use crate::oracle::overlap::{boxes_overlap, spans_overlap};
+use crate::oracle::wrong::Wrong;
+
+#[derive(Clone)]
+pub struct Book {
+    pub capacity: usize,
+    /// Ascending by number.
+    pub live: Vec<Grant>,
+    wrong: Wrong,
+}
+
+impl Book {
+    pub fn new(capacity: usize, wrong: Wrong) -> Book {
+        Book { capacity, live: Vec::new(), wrong }
+    }
+
+    pub fn find(&self, number: u16) -> Option<&Grant> {
+        self.live.iter().find(|grant| grant.number == number)
+    }
+
+    fn is_full(&self) -> bool {
+        let early = usize::from(self.wrong == Wrong::FullOneGrantEarly);
+        self.live.len() + early >= self.capacity
+    }
+
+    pub fn grant(&mut self, grant: Grant) -> Result<(), Fault> {
+        if self.wrong == Wrong::LiveAfterFull && self.is_full() {
+            return Err(fault(6));
+        }
+        if self.find(grant.number).is_some() {
+            return Err(fault(5));
+        }
+        if self.is_full() {
+            return Err(fault(6));
+        }
+        let place = self.live.partition_point(|other| other.number < grant.number);
+        self.live.insert(place, grant);
+        Ok(())
+    }
+
+    pub fn revoke(&mut self, number: u16) -> Result<Grant, Fault> {
+        let place = self.live.iter().position(|grant| grant.number == number).ok_or(fault(7))?;
+        if self.wrong == Wrong::RevokeForgetsTheNext && place + 1 < self.live.len() {
+            self.live.remove(place + 1);
+        }
+        Ok(self.live.remove(place))
+    }
+
+    pub fn overlapping(&self, bounds: &Bounds) -> Vec<Grant> {
+        self.live.iter().filter(|grant| boxes_overlap(&grant.bounds, bounds, self.wrong)).copied().collect()
+    }
+
+    /// The numbers that list writes into `lent` elements.
+    pub fn list(&self, bounds: &Bounds, lent: usize) -> Result<Vec<u16>, Fault> {
+        let mut numbers: Vec<u16> = self.overlapping(bounds).iter().map(|grant| grant.number).collect();
+        if self.wrong == Wrong::ListDescending {
+            numbers.reverse();
+        }
+        let lent = if self.wrong == Wrong::LengthsCutTo16Bits { lent & 0xFFFF } else { lent };
+        match numbers.len() > lent {
+            true => Err(Fault { number: 8, value: numbers.len() as u32 }),
+            false => Ok(numbers),
+        }
+    }
+
+    /// The highest rank decides; at equal rank the lowest number.
+    pub fn decide(&self, point: [u16; 3]) -> Option<Grant> {
+        let hits = self.overlapping(&point.map(|at| (at, at)));
+        let highest = hits.iter().map(|grant| grant.rank).max()?;
+        let mut best = hits.into_iter().filter(|grant| grant.rank == highest);
+        match self.wrong {
+            Wrong::HigherNumberAtEqualRank => best.next_back(),
+            _ => best.next(),
+        }
+    }
+
+    /// The grants that touch doors, whole.
+    pub fn touching(&self, doors: Span) -> Vec<Grant> {
+        self.live.iter().filter(|grant| spans_overlap(grant.bounds[DOORS], doors, self.wrong)).copied().collect()
+    }
+}

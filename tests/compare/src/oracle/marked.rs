@@ -1,0 +1,42 @@
+//! Document 01's marked cases, tried on the plain implementation: what the library is held against is itself held to the paper.
+
+use crate::interface::grant::Grant;
+use crate::oracle::book::Book;
+use crate::oracle::file::check;
+use crate::oracle::overlap::spans_overlap;
+use crate::oracle::tree::{goes_left, halves, point_of, WHOLE};
+use crate::oracle::wrong::Wrong;
+
+/// The marked cases that the plain implementation gets wrong.
+pub fn failing() -> Vec<&'static str> {
+    let cases = [("checks", checks_hold()), ("axes and halves", halves_hold()), ("doors", doors_hold()), ("slips", slips_hold())];
+    cases.into_iter().filter(|(_, holds)| !holds).map(|(name, _)| name).collect()
+}
+
+fn checks_hold() -> bool {
+    let marked: [(&[u8], u16); 5] = [(&[], 1), (&[0], 256), (&[0, 0], 15), (&[255, 255], 29), (&[0, 0, 0], 3840)];
+    marked.iter().all(|(bytes, sum)| check(bytes) == *sum)
+}
+
+fn halves_hold() -> bool {
+    let axis = |level| halves(&WHOLE, level).0.iter().position(|span| *span != (0, 65535));
+    let left = |staff| goes_left(&point_of(1, &[(staff, 65535); 3]), &WHOLE, 0, Wrong::Nothing);
+    (axis(6), axis(7), axis(111)) == (Some(6), Some(0), Some(6)) && left(32767) && !left(32768)
+}
+
+fn doors_hold() -> bool {
+    spans_overlap((1, 40), (40, 50), Wrong::Nothing) && !spans_overlap((1, 40), (41, 50), Wrong::Nothing)
+}
+
+/// The slips of the paper, as calls on the book.
+fn slips_hold() -> bool {
+    let mut book = Book::new(2048, Wrong::Nothing);
+    let seven = Grant { number: 7, rank: 10, kind: 1, bounds: [(100, 199), (1, 40), (32, 63)] };
+    let three = Grant { number: 3, rank: 20, kind: 0, bounds: [(150, 150), (12, 12), (0, 65535)] };
+    let granted = book.grant(seven).is_ok() && book.grant(three).is_ok();
+    let again = book.grant(Grant { bounds: [(0, 0); 3], ..seven }).is_err_and(|fault| fault.number == 5);
+    let listed = book.list(&[(150, 150), (1, 20), (40, 40)], 2048) == Ok(vec![3, 7]);
+    let decided = book.decide([150, 12, 40]) == Some(three) && book.decide([200, 12, 40]).is_none();
+    let revoked = book.revoke(3) == Ok(three) && book.decide([150, 12, 40]) == Some(seven);
+    granted && again && listed && decided && revoked && book.live.len() == 1
+}

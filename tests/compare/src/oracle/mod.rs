@@ -1,0 +1,18 @@
+//! What document 01 says of every call, on plain lists and on any words: shares nothing with the library.
+
+pub mod arguments;
+pub mod block_read;
+pub mod book;
+pub mod file;
+pub mod honest;
+pub mod judge;
+pub mod layout;
+pub mod marked;
+pub mod overlap;
+pub mod plain;
+pub mod scrambled;
+pub mod sound;
+pub mod tree;
+pub mod walks;
+pub mod words;
+pub mod wrong;

@@ -1,0 +1,164 @@
+//! The plain implementation: what document 01 fixes of a call's answer and of all memory after it, on any pool.
+
+use crate::interface::answer::{fault, Answer, Fault};
+use crate::interface::call::Call;
+use crate::interface::grant::Grant;
+use crate::interface::lent::Lent;
+use crate::oracle::arguments::argument_fault;
+use crate::oracle::block_read;
+use crate::oracle::honest::Honest;
+use crate::oracle::judge::{self, judge, Contents};
+use crate::oracle::layout::capacity_of;
+use crate::oracle::scrambled;
+use crate::oracle::wrong::Wrong;
+
+/// What must be seen after a call.
+pub struct Expected {
+    /// None: accepted, and the answer and what it writes in the lent memory are free.
+    pub answer: Option<Answer>,
+    pub lent: Lent,
+    /// The pool's words are free: an accepted grant or revoke on a scrambled pool.
+    pub pool_is_free: bool,
+    /// Which cause of a refusal was reached, in words.
+    pub reached: Option<String>,
+}
+
+enum Standing {
+    /// Start or load and later accepted calls made the pool.
+    Honest(Honest),
+    Scrambled(Vec<u16>),
+}
+
+pub struct Plain {
+    standing: Standing,
+    wrong: Wrong,
+}
+
+/// A refusal, and the words for its cause.
+type Refused = (Fault, String);
+
+impl Plain {
+    /// A pool of any words; nothing is known of where they come from.
+    pub fn new(words: &[u16], wrong: Wrong) -> Plain {
+        Plain { standing: Standing::Scrambled(words.to_vec()), wrong }
+    }
+
+    /// The words that the pool must have.
+    pub fn words(&self) -> &[u16] {
+        match &self.standing {
+            Standing::Honest(honest) => &honest.words,
+            Standing::Scrambled(words) => words,
+        }
+    }
+
+    /// The live grants, where the pool is one that calls made.
+    pub fn live(&self) -> Option<&[Grant]> {
+        match &self.standing {
+            Standing::Honest(honest) => Some(&honest.book.live),
+            Standing::Scrambled(_) => None,
+        }
+    }
+
+    /// Takes over the words that a call was free to leave.
+    pub fn adopt(&mut self, words: &[u16]) {
+        self.standing = Standing::Scrambled(words.to_vec());
+    }
+
+    pub fn step(&mut self, call: &Call) -> Expected {
+        let mut lent = Lent::before(call);
+        let outcome = self.answer(call, &mut lent);
+        let free = matches!(outcome, Ok(None));
+        let (answer, reached) = match outcome {
+            Ok(answer) => (answer, None),
+            Err((fault, cause)) => (Some(Answer::Refused(fault)), Some(format!("{} {}{cause}", call.name(), fault.number))),
+        };
+        Expected { answer, lent, pool_is_free: free && matches!(call, Call::Grant(_) | Call::Revoke(_)), reached }
+    }
+
+    /// The order line: 1, then the arguments or the file, then 9 and the faults behind it.
+    fn answer(&mut self, call: &Call, lent: &mut Lent) -> Result<Option<Answer>, Refused> {
+        if let Call::Block(file, block) = call {
+            return block_read::verdict(file, *block, self.wrong).map(|_| Some(Answer::Done)).map_err(file_cause);
+        }
+        if let Call::BlockPart(file, block) = call {
+            let (length, start) = block_read::part(file, *block, self.wrong);
+            return Ok(Some(Answer::Part { length, start }));
+        }
+        if let (Call::Match(file), Wrong::FileBeforePool) = (call, self.wrong) {
+            judge(file, self.wrong).map_err(file_cause)?;
+        }
+        let capacity = self.capacity(call).ok_or((fault(1), String::new()))?;
+        match call {
+            Call::Start => self.standing = Standing::Honest(Honest::start(capacity, self.wrong)),
+            Call::Load(file) => self.load(capacity, file)?,
+            _ => return self.walk(call, lent),
+        }
+        Ok(Some(Answer::Done))
+    }
+
+    /// C where the pool's length is right and, except in start and load, its first word too.
+    fn capacity(&self, call: &Call) -> Option<usize> {
+        let words = self.words();
+        let capacity = capacity_of(words)?;
+        let any_first = match call {
+            Call::Start => self.wrong != Wrong::StartReadsTheFirstWord,
+            _ => matches!(call, Call::Load(_)),
+        };
+        (any_first || usize::from(words[0]) == capacity).then_some(capacity)
+    }
+
+    fn load(&mut self, capacity: usize, file: &[u8]) -> Result<(), Refused> {
+        let contents = judge(file, self.wrong).map_err(file_cause)?;
+        if contents.grants.len() > capacity && self.wrong != Wrong::LoadStopsAtFullPool {
+            return Err((fault(6), String::new()));
+        }
+        self.standing = Standing::Honest(Honest::load(capacity, &contents.grants, self.wrong));
+        Ok(())
+    }
+
+    /// The calls that walk.
+    fn walk(&mut self, call: &Call, lent: &mut Lent) -> Result<Option<Answer>, Refused> {
+        if let Some(fault) = argument_fault(call, self.wrong) {
+            if self.wrong == Wrong::WalksBeforeArguments {
+                scrambled_step(self.words(), call, None, self.wrong)?;
+            }
+            return Err((fault, String::new()));
+        }
+        let file = match call {
+            Call::Match(file) => Some(judge(file, self.wrong).map_err(file_cause)?),
+            _ => None,
+        };
+        match &mut self.standing {
+            Standing::Honest(honest) => honest_step(honest, call, lent, file.as_ref(), self.wrong),
+            Standing::Scrambled(words) => scrambled_step(words, call, file.as_ref(), self.wrong),
+        }
+    }
+}
+
+/// The book answers. On its pool the walks must refuse the same, or document 01 was read in two ways here.
+fn honest_step(
+    honest: &mut Honest,
+    call: &Call,
+    lent: &mut Lent,
+    file: Option<&Contents>,
+    wrong: Wrong,
+) -> Result<Option<Answer>, Refused> {
+    let by_walks = (wrong == Wrong::Nothing).then(|| scrambled::refusal(&honest.words, call, file, wrong));
+    let answer = honest.step(call, lent, file);
+    if let Some(by_walks) = by_walks {
+        assert_eq!(by_walks.err().map(|(fault, _)| fault), answer.err(), "book and walks on {call}");
+    }
+    answer.map(Some).map_err(|fault| (fault, String::new()))
+}
+
+fn scrambled_step(words: &[u16], call: &Call, file: Option<&Contents>, wrong: Wrong) -> Result<Option<Answer>, Refused> {
+    match scrambled::refusal(words, call, file, wrong) {
+        Ok(()) => Ok(None),
+        Err((fault, None)) => Err((fault, " on a scrambled pool".to_string())),
+        Err((fault, Some(nine))) => Err((fault, format!(" {}: {}", nine.walk, nine.cause))),
+    }
+}
+
+fn file_cause(refusal: judge::Refusal) -> Refused {
+    (refusal.fault, format!(" {}, {}", refusal.cause, refusal.place))
+}

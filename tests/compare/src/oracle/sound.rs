@@ -1,0 +1,61 @@
+//! Whether a pool is sound (demand 3): the links from the root and the free head reach each cell once, the root's cells carry the
+//! live grants, each with its point in its region and none behind more than 112 others.
+
+use crate::interface::grant::Grant;
+use crate::oracle::layout::{cell_words, left_of, right_of, FREE_HEAD, ROOT};
+use crate::oracle::tree::{halves, holds, point_in, Region, DEEPEST, WHOLE};
+
+struct Reached<'a> {
+    words: &'a [u16],
+    seen: Vec<bool>,
+    live: Vec<Grant>,
+}
+
+pub fn is_sound(words: &[u16], live: &[Grant]) -> bool {
+    let mut reached = Reached { words, seen: vec![false; usize::from(words[0])], live: Vec::new() };
+    let linked = reached.tree(words[ROOT], 0, &WHOLE) && reached.free(words[FREE_HEAD]);
+    reached.live.sort_by_key(|grant| grant.number);
+    linked && reached.seen.iter().all(|seen| *seen) && reached.live == live
+}
+
+impl Reached<'_> {
+    /// Marks a cell; false if it is none or was reached before.
+    fn reach(&mut self, cell: u16) -> bool {
+        match self.seen.get_mut(usize::from(cell) - 1) {
+            Some(seen) => !std::mem::replace(seen, true),
+            None => false,
+        }
+    }
+
+    fn tree(&mut self, cell: u16, level: usize, region: &Region) -> bool {
+        if cell == 0 {
+            return true;
+        }
+        if level > DEEPEST || !self.reach(cell) || !holds(region, &point_in(self.words, cell)) {
+            return false;
+        }
+        self.live.push(grant_in(self.words, cell));
+        let (left, right) = (self.words[left_of(cell)], self.words[right_of(cell)]);
+        if level == DEEPEST {
+            return (left, right) == (0, 0);
+        }
+        let (lower, upper) = halves(region, level);
+        self.tree(left, level + 1, &lower) && self.tree(right, level + 1, &upper)
+    }
+
+    fn free(&mut self, mut cell: u16) -> bool {
+        while cell != 0 {
+            if !self.reach(cell) {
+                return false;
+            }
+            cell = self.words[left_of(cell)];
+        }
+        true
+    }
+}
+
+fn grant_in(words: &[u16], cell: u16) -> Grant {
+    let cell = cell_words(words, cell);
+    let ends = [cell[4], cell[5], cell[6], cell[7], cell[8], cell[9]];
+    Grant { number: cell[2], rank: (cell[3] / 2) as u8, kind: (cell[3] % 2) as u8, bounds: Grant::bounds_of(ends) }
+}

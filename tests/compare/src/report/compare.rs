@@ -1,0 +1,75 @@
+//! A case run on the library and on the plain implementation, held against each other after every call.
+
+use crate::cases::case::Case;
+use crate::interface::answer::Answer;
+use crate::library::product::{Observed, Product};
+use crate::oracle::plain::{Expected, Plain};
+use crate::oracle::sound::is_sound;
+use crate::oracle::wrong::Wrong;
+use std::collections::BTreeMap;
+
+/// Where the two first differ, and how.
+#[derive(Debug)]
+pub struct Difference {
+    pub at: usize,
+    pub what: String,
+}
+
+/// What a run has tried.
+#[derive(Default)]
+pub struct Tally {
+    pub calls: usize,
+    /// Each refusal by call, number and cause, and how often it was seen.
+    pub reached: BTreeMap<String, usize>,
+}
+
+pub fn run(case: &Case, wrong: Wrong, tally: &mut Tally) -> Result<(), Difference> {
+    let mut product = Product::new(&case.pool);
+    let mut plain = Plain::new(&case.pool, wrong);
+    for (at, call) in case.calls.iter().enumerate() {
+        let expected = plain.step(call);
+        let observed = product.make(call);
+        if let Some(what) = difference(&expected, &observed).or_else(|| pool_difference(&expected, &plain, &product)) {
+            return Err(Difference { at, what });
+        }
+        if expected.pool_is_free {
+            plain.adopt(product.words());
+        }
+        tally.calls += 1;
+        if let Some(reached) = expected.reached {
+            *tally.reached.entry(reached).or_default() += 1;
+        }
+    }
+    match plain.live() {
+        Some(live) if !is_sound(product.words(), live) => {
+            Err(Difference { at: case.calls.len().saturating_sub(1), what: "the pool is not sound".to_string() })
+        }
+        _ => Ok(()),
+    }
+}
+
+/// The first difference in guards, answer or lent memory.
+fn difference(expected: &Expected, observed: &Observed) -> Option<String> {
+    if !observed.guards_stand {
+        return Some("memory outside what was lent changed".to_string());
+    }
+    let Some(answer) = expected.answer else {
+        return match observed.answer {
+            Answer::Refused(fault) => Some(format!("accepted is right, the library refuses with {fault:?}")),
+            _ => None,
+        };
+    };
+    if answer != observed.answer {
+        return Some(format!("{answer:?} is right, the library answers {:?}", observed.answer));
+    }
+    let (place, right, seen) = expected.lent.first_difference(&observed.lent)?;
+    Some(format!("lent element {place}: {right} is right, the library leaves {seen}"))
+}
+
+fn pool_difference(expected: &Expected, plain: &Plain, product: &Product) -> Option<String> {
+    if expected.pool_is_free {
+        return None;
+    }
+    let place = plain.words().iter().zip(product.words()).position(|(a, b)| a != b)?;
+    Some(format!("pool word {place}: {} is right, the library leaves {}", plain.words()[place], product.words()[place]))
+}

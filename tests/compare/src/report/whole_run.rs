@@ -1,0 +1,86 @@
+//! A whole run: the rounds, what they must have reached, the wrong versions, and the line that says so.
+
+use crate::cases::case::Case;
+use crate::cases::random::Random;
+use crate::cases::suite::{self, Family};
+use crate::interface::call::Call;
+use crate::oracle::marked;
+use crate::oracle::wrong::{self, Wrong};
+use crate::report::compare::{run, Tally};
+use crate::report::{required, self_test, shrink};
+use std::collections::BTreeSet;
+
+/// Every so many rounds comes a long one.
+const LONG_EVERY: usize = 30;
+
+/// What a run has tried, by family.
+#[derive(Default)]
+pub struct Counts {
+    tally: Tally,
+    files: usize,
+    scrambled: usize,
+}
+
+impl Counts {
+    /// How many of document 01's faults were seen.
+    pub fn faults(&self) -> usize {
+        self.tally.reached.keys().filter_map(|refusal| refusal.split_whitespace().nth(1)).collect::<BTreeSet<_>>().len()
+    }
+
+    /// Runs a case; on a difference prints the shortest history that shows it.
+    pub fn visit(&mut self, family: Family, case: &Case) -> Result<(), ()> {
+        match family {
+            Family::History => {}
+            Family::File => self.files += case.calls.iter().filter(|call| matches!(call, Call::Load(_))).count(),
+            Family::Scrambled => self.scrambled += 1,
+        }
+        run(case, Wrong::Nothing, &mut self.tally).map_err(|difference| {
+            println!("compare: {}", difference.what);
+            let shortest = shrink::shrink(case, difference.at, Wrong::Nothing);
+            let shown = run(&shortest, Wrong::Nothing, &mut Tally::default()).err();
+            println!(
+                "compare: the shortest history with a difference, in its last call:\n{shortest}{}",
+                shown.map_or(String::new(), |shown| shown.what)
+            );
+        })
+    }
+}
+
+/// Makes the rounds and prints one line, or what is wrong; whether all is well.
+pub fn compare(seed: u64, rounds: usize) -> bool {
+    let mut random = Random::new(seed);
+    let mut counts = Counts::default();
+    for i in 0..rounds {
+        let mut visit = |family, case: &Case| counts.visit(family, case);
+        let mut made = suite::round(&mut random, i, &mut visit);
+        if made.is_ok() && i.is_multiple_of(LONG_EVERY) {
+            made = suite::long_round(&mut random, &mut visit);
+        }
+        if made.is_err() {
+            println!("compare: seed {seed}, round {i}: the library differs");
+            return false;
+        }
+    }
+    let uncaught = self_test::uncaught(seed);
+    println!("{}", summary(seed, &counts, uncaught.len()));
+    let missing = required::missing(&counts.tally.reached);
+    let failing = marked::failing();
+    missing.iter().for_each(|refusal| println!("compare: not reached: {refusal}"));
+    uncaught.iter().for_each(|wrong| println!("compare: not caught: {wrong:?}"));
+    failing.iter().for_each(|name| println!("compare: marked cases that the scan gets wrong: {name}"));
+    missing.is_empty() && uncaught.is_empty() && failing.is_empty()
+}
+
+fn summary(seed: u64, counts: &Counts, uncaught: usize) -> String {
+    format!(
+        "compare: seed {seed}: {} calls, {} files and {} scrambled pools as document 01 has them; {} faults reached by {} causes; \
+         {} of {} wrong versions caught",
+        counts.tally.calls,
+        counts.files,
+        counts.scrambled,
+        counts.faults(),
+        counts.tally.reached.len(),
+        wrong::ALL.len() - uncaught,
+        wrong::ALL.len()
+    )
+}
