@@ -1,11 +1,16 @@
-"""The panel against a scan of the plain book: ask.py PROGRAM SEED. Random grants are cut to a file, and random questions asked of it."""
+"""The panel against the plain book: ask.py PROGRAM SEED. Random grants are cut to a file, and random questions asked of it."""
+import itertools
 import pathlib
 import random
 import subprocess
 import sys
 import tempfile
 
-from book import decide, grants_file, outranks, replay
+from book import box_of, outranks, share
+from grants_file import file_of
+from slips import replay
+
+DOORS = (2, 7)
 
 program, seed = str(pathlib.Path(sys.argv[1]).resolve()), int(sys.argv[2])
 pick = random.Random(seed)
@@ -21,10 +26,10 @@ def journal(count):
     return [f"G {n} {pick.randrange(4)} {pick.randrange(2)} {span(12)} {span(9)} {span(9)}" for n in numbers]
 
 
-def standing(live, g, door, quarter):
-    """In words, by asking of each staff number of g whether a grant that outranks it holds there too."""
-    higher = [h for h in live if h.touches(door, quarter) and outranks(h, g)]
-    lost = [any(h.has(s) for h in higher) for s in range(g.staff[0], g.staff[1] + 1)]
+def standing(rows, g):
+    """In words, by asking of each staff number of g whether a row that outranks it has it too."""
+    higher = [h for h in rows if outranks(h, g)]
+    lost = [any(share(h.staff, (s, s)) for h in higher) for s in range(g.staff[0], g.staff[1] + 1)]
     if all(lost):
         return ", OVERRIDDEN"
     return ", in part" if any(lost) else ""
@@ -34,15 +39,15 @@ def row(values, does):
     return "".join(f"{v:8}" for v in values) + "  " + does
 
 
-def who(live, door, quarter):
-    rows = [g for g in live if g.touches(door, quarter)]
+def who(book, door, quarter):
+    rows = book.hits(box_of((0, 65535, door, door, quarter, quarter)))
     yield f"door {door}, quarter {quarter}"
     yield "  number    rank   staff      to through  until             does"
     for i, g in enumerate(rows):
         if i > 0 and i % 16 == 0:
             yield "more: press Enter"
             yield ""
-        does = ("bars", "opens")[g.kind] + standing(live, g, door, quarter)
+        does = ("bars", "opens")[g.kind] + standing(rows, g)
         yield row([g.number, g.rank, *g.staff, g.quarters[1]], "-" + 15 * " " + "  " + does)
     if rows:
         yield f"{len(rows)} in all"
@@ -53,8 +58,8 @@ def who(live, door, quarter):
     yield ""
 
 
-def may(live, staff, door, quarter):
-    g = decide(live, staff, door, quarter)
+def may(book, staff, door, quarter):
+    g = book.decide(staff, door, quarter)
     asked = f"staff {staff}, door {door}, quarter {quarter}: "
     if g is None:
         yield asked + "NO GRANT, do not open"
@@ -66,34 +71,57 @@ def may(live, staff, door, quarter):
 
 
 def run(words, text=""):
-    return subprocess.run([program, *words], input=text, capture_output=True, text=True, check=True).stdout
+    """What the program prints; it may say nothing on standard error."""
+    ran = subprocess.run([program, *words], input=text, capture_output=True, text=True, check=True)
+    if ran.stderr:
+        sys.exit(f"ask: seed {seed}: grants {' '.join(words)} says on standard error: {ran.stderr}")
+    return ran.stdout
+
+
+def questions_and_answers(book, count):
+    """Lines to type, and the lines that the panel must print."""
+    questions, answers = [], []
+    for _ in range(count):
+        door, quarter, staff = pick.randrange(DOORS[0], DOORS[1] + 1), pick.randrange(11), pick.randrange(14)
+        if pick.random() < 0.4:
+            # an empty line for each screenful after the first
+            shown = list(who(book, door, quarter))
+            questions += [f"who {door} {quarter}"] + [""] * shown.count("more: press Enter")
+            answers += shown
+        else:
+            questions.append(f"may {staff} {door} {quarter}")
+            answers += may(book, staff, door, quarter)
+    return questions, answers
+
+
+def first_difference(given, right):
+    for i, (a, b) in enumerate(itertools.zip_longest(given, right, fillvalue="(nothing)")):
+        if a != b:
+            return f"line {i + 1} is\n  {a}\nand not\n  {b}"
+    return None
+
+
+def try_grants(count, folder):
+    """Cuts so many grants, asks, matches; how many lines were typed."""
+    lines = journal(count)
+    book = replay("".join(line + "\n" for line in lines).encode())
+    path, bank = folder / "journal", folder / "bank"
+    path.write_text("".join(line + "\n" for line in lines))
+    run(["cut", str(path), str(DOORS[0]), str(DOORS[1]), str(bank)])
+    if bank.read_bytes() != file_of(DOORS, book):
+        sys.exit(f"ask: seed {seed}, {count} grants: another file than document 01's")
+    questions, answers = questions_and_answers(book, 60)
+    given = run(["panel", str(bank)], "".join(q + "\n" for q in questions)).split("\n\n", 1)[1].splitlines()
+    difference = first_difference(given, answers)
+    if difference is not None:
+        sys.exit(f"ask: seed {seed}, {count} grants: the panel and the plain book differ: {difference}")
+    if run(["match", str(path), str(bank)]) != "equal\n":
+        sys.exit(f"ask: seed {seed}, {count} grants: the file that was cut doesn't match")
+    return len(questions)
 
 
 asked = 0
 for count in (0, 1, 5, 31, 32, 60):
-    lines = journal(count)
-    live = replay(lines)
     with tempfile.TemporaryDirectory() as folder:
-        path, bank = pathlib.Path(folder, "journal"), pathlib.Path(folder, "bank")
-        path.write_text("".join(line + "\n" for line in lines))
-        run(["cut", str(path), "2", "7", str(bank)])
-        if bank.read_bytes() != grants_file(2, 7, live):
-            sys.exit(f"ask: another file than document 01's, seed {seed}, {count} grants")
-        questions, answers = [], []
-        for _ in range(60):
-            door, quarter, staff = pick.randrange(2, 8), pick.randrange(11), pick.randrange(14)
-            if pick.random() < 0.4:
-                # an empty line for each screenful after the first
-                shown = list(who(live, door, quarter))
-                questions += [f"who {door} {quarter}"] + [""] * shown.count("more: press Enter")
-                answers += shown
-            else:
-                questions.append(f"may {staff} {door} {quarter}")
-                answers += may(live, staff, door, quarter)
-        given = run(["panel", str(bank)], "".join(q + "\n" for q in questions)).split("\n\n", 1)[1]
-        if given.splitlines() != answers:
-            sys.exit(f"ask: the panel and the scan differ, seed {seed}, {count} grants")
-        asked += len(questions)
-        if run(["match", str(path), str(bank)]) != "equal\n":
-            sys.exit(f"ask: the file that was cut doesn't match, seed {seed}, {count} grants")
-print(f"ask: {asked} questions as the scan answers them")
+        asked += try_grants(count, pathlib.Path(folder))
+print(f"ask: {asked} questions as the plain book answers them")

@@ -2,18 +2,18 @@
 import pathlib
 import sys
 
-from book import check, word
+from grants_file import BLOCK, CHECK, check, word
 
 
-def change(block_at, place, new):
+def change(number, place, new):
     """New bytes at a place of a block, with the block's check made right again."""
 
     def apply(file):
-        at = 512 * block_at
-        block = bytearray(file[at : at + 512])
+        at = BLOCK * number
+        block = bytearray(file[at : at + BLOCK])
         block[place : place + len(new)] = new
-        block[510:512] = check(bytes(block[:510]))
-        return file[:at] + bytes(block) + file[at + 512 :]
+        block[CHECK:] = check(block[:CHECK])
+        return file[:at] + bytes(block) + file[at + BLOCK :]
 
     return apply
 
@@ -21,7 +21,7 @@ def change(block_at, place, new):
 DAMAGES = {
     "empty": lambda f: b"",
     "cut_off": lambda f: f[:1000],
-    "too_long": lambda f: f + f[512:1024] * 67,
+    "too_long": lambda f: f + f[BLOCK : 2 * BLOCK] * 67,
     "one_byte": lambda f: f[:600] + bytes([f[600] ^ 1]) + f[601:],
     "mark": change(0, 0, b"ZIP1"),
     "mark_of_block_1": change(1, 3, b"2"),

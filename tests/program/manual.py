@@ -1,31 +1,44 @@
 """The manual's worked day, as it stands there: manual.py PROGRAM MANUAL. Each block that begins with `$ ` is run, and its lines compared.
 
-In a block, `$ grants ..` is a command, `panel> ..` what is then typed, and every other line what must be printed."""
+In a block, `$ grants ..` is a command, `panel> ..` what is then typed, and every other line what must be printed: on standard error where it
+begins with `grants:`, else on standard output."""
 import pathlib
 import subprocess
 import sys
 
-program, manual = sys.argv[1], pathlib.Path(sys.argv[2]).read_text().splitlines()
-blocks, block = [], []
-for line in manual + ["end"]:
-    inside = line.startswith("    ") or (block and line == "")
-    if block and (not inside or line.startswith("    $ ")):
-        if block[0].startswith("$ "):
-            blocks.append("\n".join(block).strip().splitlines())
-        block = []
-    if inside:
-        block.append(line[4:])
 
-for block in blocks:
+def blocks_of(manual):
+    """The blocks of a command each, as lines."""
+    blocks, block = [], []
+    for line in manual.splitlines() + ["end"]:
+        inside = line.startswith("    ") or (block and line == "")
+        if block and (not inside or line.startswith("    $ ")):
+            if block[0].startswith("$ "):
+                blocks.append("\n".join(block).strip().splitlines())
+            block = []
+        if inside:
+            block.append(line[4:])
+    return blocks
+
+
+def try_block(program, block):
     command = block[0].removeprefix("$ ")
     typed = [line.removeprefix("panel> ") for line in block[1:] if line.startswith("panel> ")]
     shown = [line for line in block[1:] if not line.startswith("panel> ")]
     words = command.split(" ")
     if words[0] == "grants":
         words[0] = program
-    run = subprocess.run(words, input="".join(t + "\n" for t in typed), capture_output=True, text=True, check=True)
-    if run.stdout.splitlines() + run.stderr.splitlines() != shown:
-        sys.exit(f"manual: `{command}` prints something else than docs/MANUAL.md says:\n{run.stdout}{run.stderr}")
+    ran = subprocess.run(words, input="".join(t + "\n" for t in typed), capture_output=True, text=True, check=True)
+    wrong = [line for line in shown if line.startswith("grants:")]
+    answered = [line for line in shown if not line.startswith("grants:")]
+    for stream, given, right in (("output", ran.stdout, answered), ("error", ran.stderr, wrong)):
+        if given.splitlines() != right:
+            sys.exit(f"manual: `{command}` prints on standard {stream} something else than docs/MANUAL.md says:\n{given}")
+
+
+blocks = blocks_of(pathlib.Path(sys.argv[2]).read_text(encoding="utf-8"))
 if len(blocks) < 6:
     sys.exit("manual: the worked day is missing")
+for block in blocks:
+    try_block(sys.argv[1], block)
 print(f"manual: {len(blocks)} commands print what docs/MANUAL.md says")

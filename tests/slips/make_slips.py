@@ -1,14 +1,16 @@
 #!/usr/bin/env python3
 """Writes slips, the same ones for the same arguments: random ones, and those that a wrong program is likely to get wrong.
 
-    make_slips.py SEED COUNT > slips
+    make_slips.py SEED COUNT > slips      with tests/plain in PYTHONPATH
 
 Equal boxes, single points, ends at 0, 32767, 32768 and 65535; numbers that are live already, revokes of live and of dead numbers; the
 refusals 2 to 7; lines of another form of many kinds. From 2600 slips on the book is filled once and listed whole, so that 6 comes too.
 """
 import sys
 
-CAPACITY = 2048
+from book import CAPACITY
+from slips import FORMS
+
 WHOLE = "L 0 65535 0 65535 0 65535"
 EDGES = [0, 1, 32766, 32767, 32768, 32769, 65534, 65535]
 
@@ -168,8 +170,7 @@ class Slips:
     def spoiled(self):
         """A slip of each letter, spoiled in one place."""
         letter = self.numbers.one_of("GRLDC")
-        counts = {"G": 9, "R": 1, "L": 6, "D": 3, "C": 0}
-        fields = [letter] + [str(self.numbers.below(2)) for _ in range(counts[letter])]
+        fields = [letter] + [str(self.numbers.below(2)) for _ in FORMS[letter]]
         slip = " ".join(fields)
         i = self.numbers.below(len(fields))
         way = self.numbers.below(24)

@@ -1,0 +1,98 @@
+"""Document 01's plain book: the live grants in a plain list, every question a scan of it. It shares nothing with the product."""
+
+CAPACITY = 2048
+
+
+class Refused(Exception):
+    """A refusal, with document 01's number of the fault."""
+
+    def __init__(self, fault):
+        super().__init__(f"refused {fault}")
+        self.fault = fault
+
+
+def box_of(ends):
+    """Staff, doors and quarters, each from and to; both ends belong to it."""
+    return tuple(ends[0:2]), tuple(ends[2:4]), tuple(ends[4:6])
+
+
+def point(staff, door, quarter):
+    return box_of((staff, staff, door, door, quarter, quarter))
+
+
+def share(a, b):
+    """Whether two ranges share a value: condition 5 of source 001."""
+    return a[0] <= b[1] and a[1] >= b[0]
+
+
+def overlap(a, b):
+    return all(share(x, y) for x, y in zip(a, b))
+
+
+def is_reversed(ranges):
+    return any(low > high for low, high in ranges)
+
+
+class Grant:
+    def __init__(self, number, rank, kind, *ends):
+        self.number, self.rank, self.kind = number, rank, kind
+        self.box = box_of(ends)
+        self.staff, self.doors, self.quarters = self.box
+
+
+def outranks(g, h):
+    """The higher rank decides; at equal rank the lower number."""
+    return (g.rank, -g.number) > (h.rank, -h.number)
+
+
+class Book:
+    """C and the live grants, ascending by number."""
+
+    def __init__(self, capacity=CAPACITY):
+        self.capacity = capacity
+        self.live = []
+
+    def find(self, number):
+        return [g for g in self.live if g.number == number]
+
+    def hits(self, box):
+        return [g for g in self.live if overlap(g.box, box)]
+
+    def touching(self, doors):
+        return [g for g in self.live if share(g.doors, doors)]
+
+    def grant(self, grant):
+        refuse_if(grant.number == 0, 3)
+        refuse_if(grant.kind > 1, 4)
+        refuse_if(is_reversed(grant.box), 2)
+        refuse_if(self.find(grant.number), 5)
+        refuse_if(len(self.live) == self.capacity, 6)
+        self.live = sorted(self.live + [grant], key=lambda g: g.number)
+
+    def revoke(self, number):
+        refuse_if(number == 0, 3)
+        refuse_if(not self.find(number), 7)
+        self.live = [g for g in self.live if g.number != number]
+
+    def list(self, box, room):
+        """The numbers of the grants that overlap a box, into a list with room for so many."""
+        refuse_if(is_reversed(box), 2)
+        numbers = [g.number for g in self.hits(box)]
+        refuse_if(len(numbers) > room, 8)
+        return numbers
+
+    def decide(self, staff, door, quarter):
+        """The grant that decides, or None."""
+        best = None
+        for g in self.hits(point(staff, door, quarter)):
+            if best is None or outranks(g, best):
+                best = g
+        return best
+
+    def count(self):
+        return len(self.live), self.capacity - len(self.live)
+
+
+def refuse_if(cause, fault):
+    if cause:
+        raise Refused(fault)
