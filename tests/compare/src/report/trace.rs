@@ -53,5 +53,9 @@ pub fn write_file(path: &str, seed: u64) -> bool {
         out.flush()
     });
     let written = written.inspect_err(|error| println!("compare: {path}: {error}")).is_ok();
-    written && counts.faults() == FAULTS
+    let seen = counts.faults();
+    if written && seen != FAULTS {
+        println!("compare: {path}: the trace has {seen} faults, and not {FAULTS}");
+    }
+    written && seen == FAULTS
 }
