@@ -1,4 +1,3 @@
-#!/usr/bin/env python3
 """The slip program as document 01 describes it, on the plain book: one line for each slip of standard input.
 
     slips.py < slips > answers

@@ -1,4 +1,3 @@
-#!/usr/bin/env python3
 """Writes slips, the same ones for the same arguments: random ones, and those that a wrong program is likely to get wrong.
 
     make_slips.py SEED COUNT > slips      with tests/plain in PYTHONPATH
