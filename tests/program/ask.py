@@ -21,9 +21,9 @@ def span(most):
     return f"{ends[0]} {ends[1]}"
 
 
-def journal(count):
+def journal_of(count):
     numbers = pick.sample(range(1, 65536), count)
-    return [f"G {n} {pick.randrange(4)} {pick.randrange(2)} {span(12)} {span(9)} {span(9)}" for n in numbers]
+    return "".join(f"G {n} {pick.randrange(4)} {pick.randrange(2)} {span(12)} {span(9)} {span(9)}\n" for n in numbers).encode()
 
 
 def standing(rows, g):
@@ -72,9 +72,9 @@ def may(book, staff, door, quarter):
 
 def run(words, text=""):
     """What the program prints; it may say nothing on standard error."""
-    ran = subprocess.run([program, *words], input=text, capture_output=True, text=True, check=True)
-    if ran.stderr:
-        sys.exit(f"ask: seed {seed}: grants {' '.join(words)} says on standard error: {ran.stderr}")
+    ran = subprocess.run([program, *words], input=text, capture_output=True, text=True, check=False)
+    if ran.returncode or ran.stderr:
+        sys.exit(f"ask: seed {seed}: grants {' '.join(words)}: status {ran.returncode}, on standard error: {ran.stderr}")
     return ran.stdout
 
 
@@ -103,10 +103,10 @@ def first_difference(given, right):
 
 def try_grants(count, folder):
     """Cuts so many grants, asks, matches; how many lines were typed."""
-    lines = journal(count)
-    book = replay("".join(line + "\n" for line in lines).encode())
+    journal = journal_of(count)
+    book = replay(journal)
     path, bank = folder / "journal", folder / "bank"
-    path.write_text("".join(line + "\n" for line in lines))
+    path.write_bytes(journal)
     run(["cut", str(path), str(DOORS[0]), str(DOORS[1]), str(bank)])
     if bank.read_bytes() != file_of(DOORS, book):
         sys.exit(f"ask: seed {seed}, {count} grants: another file than document 01's")

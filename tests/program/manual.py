@@ -28,7 +28,9 @@ def try_block(program, block):
     words = command.split(" ")
     if words[0] == "grants":
         words[0] = program
-    ran = subprocess.run(words, input="".join(t + "\n" for t in typed), capture_output=True, text=True, check=True)
+    ran = subprocess.run(words, input="".join(t + "\n" for t in typed), capture_output=True, text=True, check=False)
+    if ran.returncode:
+        sys.exit(f"manual: `{command}` ends with status {ran.returncode}")
     wrong = [line for line in shown if line.startswith("grants:")]
     answered = [line for line in shown if not line.startswith("grants:")]
     for stream, given, right in (("output", ran.stdout, answered), ("error", ran.stderr, wrong)):
