@@ -26,8 +26,8 @@ use Rattle.geometry.specs.Point.{inside}
 use Rattle.pool.specs.Cell.{grantAt}
 use Rattle.adt.specs.Node.{linkPlace, pointAt}
 use Rattle.adt.proofs.Spells.{Tree, node, cellsOf, Spells, spells-node}
-use Rattle.adt.proofs.TreeLaws.{son, spells-son}
-use Rattle.adt.proofs.PartLaws.{Part, part-here, part-son}
+use Rattle.adt.proofs.TreeLaws.{child, spells-child}
+use Rattle.adt.proofs.PartLaws.{Part, part-here, part-child}
 use Rattle.adt.proofs.PartRegion.{regionIn}
 use Rattle.adt.proofs.NodeLaws.{link-injective, Away, LinkOf, link-more, link-away, Hook, hook-link}
 use Rattle.adt.proofs.FrameLaws.{inside-same, spells-frame}
@@ -36,29 +36,29 @@ abbrev pub other : Side → Side
 other Left = Right
 other Right = Left
 
--- the node k of the sons l and r, with x on a side
+-- the node k of the children l and r, with x on a side
 abbrev pub withSon : Side → ℕ → Tree → Tree → Tree → Tree
 withSon Left k l r x = node k x r
 withSon Right k l r x = node k l x
 
 unfoldable pub exchanged : {n at m link : ℕ} {t u : Tree} → Part n at t m link u → Tree → Tree
 exchanged part-here x = x
-exchanged (part-son {k = k} {l = l} {r = r} s p) x = withSon s k l r (exchanged p x)
+exchanged (part-child {k = k} {l = l} {r = r} s p) x = withSon s k l r (exchanged p x)
 
 unfoldable pub outside : {n at m link : ℕ} {t u : Tree} → Part n at t m link u → List ℕ
 outside part-here = []
-outside (part-son {k = k} {l = l} {r = r} s p) = outside p ++ (k ∷ cellsOf (son (other s) l r))
+outside (part-child {k = k} {l = l} {r = r} s p) = outside p ++ (k ∷ cellsOf (child (other s) l r))
 
-withSon-same : (s : Side) (k : ℕ) (l r : Tree) → withSon s k l r (son s l r) ≡ node k l r
+withSon-same : (s : Side) (k : ℕ) (l r : Tree) → withSon s k l r (child s l r) ≡ node k l r
 withSon-same Left k l r = refl
 withSon-same Right k l r = refl
 
 pub exchanged-same : {n at m link : ℕ} {t u : Tree} (p : Part n at t m link u) → exchanged p u ≡ t
 unfolding exchanged
 exchanged-same part-here = refl
-exchanged-same (part-son {k = k} {l = l} {r = r} s p) = rw (exchanged-same p) (withSon-same s k l r)
+exchanged-same (part-child {k = k} {l = l} {r = r} s p) = rw (exchanged-same p) (withSon-same s k l r)
 
-pub withSon-cells : (s : Side) (k : ℕ) (l r x : Tree) → Perm (cellsOf x ++ (k ∷ cellsOf (son (other s) l r))) (cellsOf (withSon s k l r x))
+pub withSon-cells : (s : Side) (k : ℕ) (l r x : Tree) → Perm (cellsOf x ++ (k ∷ cellsOf (child (other s) l r))) (cellsOf (withSon s k l r x))
 unfolding cellsOf
 withSon-cells Left k l r x = perm-sym (put-perm (put-seam (cellsOf x) (cellsOf r)))
 withSon-cells Right k l r x =
@@ -67,8 +67,8 @@ withSon-cells Right k l r x =
 pub exchanged-cells : {n at m link : ℕ} {t u : Tree} (p : Part n at t m link u) (x : Tree) → Perm (cellsOf x ++ outside p) (cellsOf (exchanged p x))
 unfolding exchanged outside
 exchanged-cells part-here x = rw append-nil (perm-refl (cellsOf x))
-exchanged-cells (part-son {k = k} {l = l} {r = r} s p) x =
-    let rest = k ∷ cellsOf (son (other s) l r) in
+exchanged-cells (part-child {k = k} {l = l} {r = r} s p) x =
+    let rest = k ∷ cellsOf (child (other s) l r) in
     perm-trans (rw (← append-assoc (cellsOf x) (outside p) rest) (perm-append rest (exchanged-cells p x))) (withSon-cells s k l r (exchanged p x))
 
 -- the tree's own cells
@@ -84,23 +84,23 @@ pub exchanged-put : {n at m link : ℕ} {t u : Tree} (p : Part n at t m link u) 
     → Put j (cellsOf (exchanged p x)) (cellsOf (exchanged p y))
 unfolding exchanged
 exchanged-put part-here j x y q = q
-exchanged-put (part-son {k = k} {l = l} {r = r} s p) j x y q = withSon-put s j k l r (exchanged p x) (exchanged p y) (exchanged-put p j x y q)
+exchanged-put (part-child {k = k} {l = l} {r = r} s p) j x y q = withSon-put s j k l r (exchanged p x) (exchanged p y) (exchanged-put p j x y q)
 
--- a link of the cell k, or of one below its son
-link-son : {link : ℕ} (s : Side) (k : ℕ) (below beside : List ℕ) → (link ≡ linkPlace k s) ⊎ LinkOf below link → LinkOf (below ++ (k ∷ beside)) link
-link-son s k below beside (inl e) = record { cell = k; member = Memᴰ·append-right below (List·Memᴰ·head refl); side = s; is = e }
-link-son s k below beside (inr h) = link-more (λ j m. Memᴰ·append-left (k ∷ beside) m) h
+-- a link of the cell k, or of one below its child
+link-child : {link : ℕ} (s : Side) (k : ℕ) (below beside : List ℕ) → (link ≡ linkPlace k s) ⊎ LinkOf below link → LinkOf (below ++ (k ∷ beside)) link
+link-child s k below beside (inl e) = record { cell = k; member = Memᴰ·append-right below (List·Memᴰ·head refl); side = s; is = e }
+link-child s k below beside (inr h) = link-more (λ j m. Memᴰ·append-left (k ∷ beside) m) h
 
 -- a part hangs at the place of the tree, or at a link of a cell outside of it
 pub part-link : {n at m link : ℕ} {t u : Tree} (p : Part n at t m link u) → (link ≡ at) ⊎ LinkOf (outside p) link
 unfolding outside
 part-link part-here = inl refl
-part-link (part-son {k = k} {l = l} {r = r} s p) = inr (link-son s k (outside p) (cellsOf (son (other s) l r)) (part-link p))
+part-link (part-child {k = k} {l = l} {r = r} s p) = inr (link-child s k (outside p) (cellsOf (child (other s) l r)) (part-link p))
 
--- below a son it is such a link
-pub part-son-link : {n m link : ℕ} {u : Tree} (s : Side) (k : ℕ) (l r : Tree) (p : Part n (linkPlace k s) (son s l r) m link u)
-    → LinkOf (outside p ++ (k ∷ cellsOf (son (other s) l r))) link
-part-son-link s k l r p = link-son s k (outside p) (cellsOf (son (other s) l r)) (part-link p)
+-- below a child it is such a link
+pub part-child-link : {n m link : ℕ} {u : Tree} (s : Side) (k : ℕ) (l r : Tree) (p : Part n (linkPlace k s) (child s l r) m link u)
+    → LinkOf (outside p ++ (k ∷ cellsOf (child (other s) l r))) link
+part-child-link s k l r p = link-child s k (outside p) (cellsOf (child (other s) l r)) (part-link p)
 
 -- a cell that is not outside of it is away from the place
 pub part-away : {c n at m link : ℕ} {t u : Tree} (p : Part n at t m link u) (k : ℕ) → Away at k → 0 < k → Upto c (outside p) → ¬ List·Memᴰ k (outside p) → Away link k
@@ -129,10 +129,10 @@ pub record Kept (w v : List ℕ) (c at link : ℕ) (ks : List ℕ) : Type 0 wher
   pub same : (k : ℕ) → List·Memᴰ k ks → SameBut w v link k
   pub top : at ≢ link → getD v at 0 ≡ getD w at 0
 
--- of the cells outside of a part, below the son that has it
-kept-son : {w v : List ℕ} {c at link : ℕ} (s : Side) (k : ℕ) (below beside : List ℕ) → Kept w v c at link (below ++ (k ∷ beside))
+-- of the cells outside of a part, below the child that has it
+kept-child : {w v : List ℕ} {c at link : ℕ} (s : Side) (k : ℕ) (below beside : List ℕ) → Kept w v c at link (below ++ (k ∷ beside))
     → Kept w v c (linkPlace k s) link below
-kept-son {c = c} s k below beside h =
+kept-child {c = c} s k below beside h =
     let here = Memᴰ·append-right below (List·Memᴰ·head refl) in
     let down : (j : ℕ) → List·Memᴰ j below → List·Memᴰ j (below ++ (k ∷ beside)) = λ j m. Memᴰ·append-left (k ∷ beside) m in
     record {
@@ -143,19 +143,19 @@ kept-son {c = c} s k below beside h =
       top = h .same k here .links s;
     }
 
--- a node with one son anew
+-- a node with one child anew
 pub spells-withSon : {v : List ℕ} {c n k : ℕ} {g : Region} (s : Side) (l r x : Tree) → 0 < k → k ≤ c → inside g (pointAt v k) ≡ true
     → Spells v c n (half s g (axisOf (levels - n))) (getD v (linkPlace k s) 0) x
-    → Spells v c n (half (other s) g (axisOf (levels - n))) (getD v (linkPlace k (other s)) 0) (son (other s) l r)
+    → Spells v c n (half (other s) g (axisOf (levels - n))) (getD v (linkPlace k (other s)) 0) (child (other s) l r)
     → Spells v c (suc n) g k (withSon s k l r x)
 spells-withSon Left l r x pos le i a b = spells-node pos le i a b
 spells-withSon Right l r x pos le i a b = spells-node pos le i b a
 
 pub spells-parts : {v : List ℕ} {c n j : ℕ} {g : Region} (s : Side) (k : ℕ) (l r x : Tree) → Spells v c (suc n) g j (withSon s k l r x)
     → Spells v c n (half s g (axisOf (levels - n))) (getD v (linkPlace k s) 0) x
-    × Spells v c n (half (other s) g (axisOf (levels - n))) (getD v (linkPlace k (other s)) 0) (son (other s) l r)
-spells-parts Left k l r x sp = (spells-son Left sp, spells-son Right sp)
-spells-parts Right k l r x sp = (spells-son Right sp, spells-son Left sp)
+    × Spells v c n (half (other s) g (axisOf (levels - n))) (getD v (linkPlace k (other s)) 0) (child (other s) l r)
+spells-parts Left k l r x sp = (spells-child Left sp, spells-child Right sp)
+spells-parts Right k l r x sp = (spells-child Right sp, spells-child Left sp)
 
 -- the first cell of a spelled tree
 pub record Cell (w : List ℕ) (c j k : ℕ) (g : Region) : Type 0 where
@@ -171,7 +171,7 @@ other-not-same : (s : Side) → other s ≢ s
 other-not-same Left e = absurd (let z : _≡_ {A = ℕ} 0 1 = cc in omega arith)
 other-not-same Right e = absurd (let z : _≡_ {A = ℕ} 0 1 = cc in omega arith)
 
--- the link of a part below the son on the side s of the cell k: it is no link of a cell beside that son, nor the other link of k
+-- the link of a part below the child on the side s of the cell k: it is no link of a cell beside that child, nor the other link of k
 module _ {c link : ℕ} (s : Side) (k : ℕ) (below beside : List ℕ) (distinct : Distinct (below ++ (k ∷ beside))) (upto : Upto c (below ++ (k ∷ beside)))
     (hangs : (link ≡ linkPlace k s) ⊎ LinkOf below link) where
   upto-below : Upto c below
@@ -205,20 +205,20 @@ pub exchanged-spells : {w v : List ℕ} {c n at m link j : ℕ} {g : Region} {t 
     → Kept w v c at link (outside p) → Spells v c m (regionIn p g) (getD v link 0) x → Spells v c n g (getD v at 0) (exchanged p x)
 unfolding regionIn exchanged outside
 exchanged-spells part-here x e sp kept new = new
-exchanged-spells {w} {v} {c} {at = at} {link = link} {g = g} (part-son {n = n} {k = k} {l = l} {r = r} s p) x e sp kept new =
-    let beside = cellsOf (son (other s) l r) in
+exchanged-spells {w} {v} {c} {at = at} {link = link} {g = g} (part-child {n = n} {k = k} {l = l} {r = r} s p) x e sp kept new =
+    let beside = cellsOf (child (other s) l r) in
     let first = spells-cell sp in
     let here : List·Memᴰ k (outside p ++ (k ∷ beside)) = Memᴰ·append-right (outside p) (List·Memᴰ·head refl) in
     let away = beside-away s k (outside p) beside (kept .distinct) (kept .upto) (part-link p) in
-    let top : getD v at 0 ≡ k = kept .top (kept-proper kept (part-son-link s k l r p)) ∙ e ∙ first .link in
+    let top : getD v at 0 ≡ k = kept .top (kept-proper kept (part-child-link s k l r p)) ∙ e ∙ first .link in
     let side : getD v (linkPlace k (other s)) 0 ≡ getD w (linkPlace k (other s)) 0 =
     kept .same k here .links (other s) (opposite-away s k (outside p) beside (kept .distinct) (kept .upto) (part-link p)) in
     rw top
     (spells-withSon s l r (exchanged p x) (first .pos) (first .le) (inside-same w v k g (kept .same k here .grant) (first .inside))
-    (exchanged-spells p x refl (spells-son s sp) (kept-son s k (outside p) beside kept) new)
+    (exchanged-spells p x refl (spells-child s sp) (kept-child s k (outside p) beside kept) new)
     (rw side
     (spells-frame
     (λ j m.
     let same = kept .same j (Memᴰ·append-right (outside p) (List·Memᴰ·tail m)) in
     record { links = λ z. same .links z (away j m z); grant = same .grant })
-    (spells-son (other s) sp))))
+    (spells-child (other s) sp))))

@@ -1,5 +1,5 @@
--- The removal walk on a spelled tree: it is never lost, and ends at a terminal cell below the one it starts from.
---   Terminal w c n k at met l r       where the walk from the cell k of the sons l and r ends
+-- The removal walk on a spelled tree: it is never broken, and ends at a terminal cell below the one it starts from.
+--   Terminal w c n k at met l r       where the walk from the cell k of the children l and r ends
 --   follow-terminal                   it ends there, unless more cells were met than there are
 --   terminalFrom-ends, terminalFrom-terminal     the whole walk from a cell that hangs in the tree
 -- Assumes nothing.
@@ -19,24 +19,24 @@ use Rattle.adt.specs.Node.{linkPlace}
 use Rattle.adt.specs.Search.{Spot}
 use Rattle.adt.specs.Remove.{terminal, nextLink, follow, terminalFrom}
 use Rattle.adt.proofs.Spells.{Tree, blank, node, cellsOf, size, Spells, spells-blank, spells-node}
-use Rattle.adt.proofs.TreeLaws.{son, spells-son, cells-size}
-use Rattle.adt.proofs.PartLaws.{Part, part-here, part-son, HangsAt, hangs-below}
+use Rattle.adt.proofs.TreeLaws.{child, spells-child, cells-size}
+use Rattle.adt.proofs.PartLaws.{Part, part-here, part-child, HangsAt, hangs-below}
 use Rattle.adt.proofs.PartRegion.{region-spells}
 use Rattle.adt.proofs.ExchangeLaws.{outside, part-outside, spells-cell}
 use Rattle.adt.proofs.Linked.{Linked, linked-count, linked-capacity}
 
--- where the walk goes on from a cell: nowhere, or to its son on a side
+-- where the walk goes on from a cell: nowhere, or to its child on a side
 data Next (w : List ℕ) (k : ℕ) (l r : Tree) : Type 0 where
   next-none : l ≡ blank → r ≡ blank → getD w (nextLink w k) 0 ≡ 0 → Next w k l r
-  next-son : (s : Side) (j : ℕ) (x y : Tree) → son s l r ≡ node j x y → nextLink w k ≡ linkPlace k s → Next w k l r
+  next-child : (s : Side) (j : ℕ) (x y : Tree) → child s l r ≡ node j x y → nextLink w k ≡ linkPlace k s → Next w k l r
 
--- from the links of its sons
+-- from the links of its children
 next-of : {w : List ℕ} {c n i j : ℕ} {g h : Region} {l r : Tree} (k : ℕ) → getD w (linkPlace k Left) 0 ≡ i → getD w (linkPlace k Right) 0 ≡ j
     → Spells w c n g i l → Spells w c n h j r → Next w k l r
 next-of {w} k e f spells-blank spells-blank = next-none refl refl (rw (eq-eqb (getD w (linkPlace k Left) 0) 0 e) f)
-next-of {w} k e f spells-blank (spells-node {k = j} {l = x} {r = y} pos le i a b) = next-son Right j x y refl (rw (eq-eqb (getD w (linkPlace k Left) 0) 0 e) refl)
+next-of {w} k e f spells-blank (spells-node {k = j} {l = x} {r = y} pos le i a b) = next-child Right j x y refl (rw (eq-eqb (getD w (linkPlace k Left) 0) 0 e) refl)
 next-of {w} k e f (spells-node {k = j} {l = x} {r = y} pos le i a b) other =
-    next-son Left j x y refl (rw (ne-eqb (getD w (linkPlace k Left) 0) 0 (omega arith)) refl)
+    next-child Left j x y refl (rw (ne-eqb (getD w (linkPlace k Left) 0) 0 (omega arith)) refl)
 
 pub record Terminal (w : List ℕ) (c n k at met : ℕ) (l r : Tree) : Type 0 where
   pub leaf : ℕ
@@ -45,10 +45,10 @@ pub record Terminal (w : List ℕ) (c n k at met : ℕ) (l r : Tree) : Type 0 wh
   pub part : Part (suc n) at (node k l r) (suc below) leafAt (node leaf blank blank)
   pub found : follow w c n k at met ≡ terminal leaf leafAt
 
-size-son : (s : Side) (k : ℕ) (l r : Tree) → size (son s l r) < size (node k l r)
+size-child : (s : Side) (k : ℕ) (l r : Tree) → size (child s l r) < size (node k l r)
 unfolding size
-size-son Left k l r = omega arith
-size-son Right k l r = omega arith
+size-child Left k l r = omega arith
+size-child Right k l r = omega arith
 
 size-some : (k : ℕ) (l r : Tree) → 0 < size (node k l r)
 unfolding size
@@ -61,44 +61,44 @@ terminal-here : {w : List ℕ} {c n k at met : ℕ} → follow w c n k at met �
 terminal-here {n = n} {k = k} {at = at} e = record { leaf = k; leafAt = at; below = n; part = part-here; found = e }
 
 module _ (w : List ℕ) (c : ℕ) where
-  -- no son: the cell itself
+  -- no child: the cell itself
   follow-none : (n k at met : ℕ) → getD w (nextLink w k) 0 ≡ 0 → follow w c n k at met ≡ terminal k at
   unfolding follow
   follow-none zero k at met e = rw e refl
   follow-none (suc n) k at met e = rw e refl
 
-  -- a son: on from there
-  follow-son : (n k at met j : ℕ) (s : Side) → nextLink w k ≡ linkPlace k s → getD w (linkPlace k s) 0 ≡ j → 0 < j → j ≤ c → met < c
+  -- a child: on from there
+  follow-child : (n k at met j : ℕ) (s : Side) → nextLink w k ≡ linkPlace k s → getD w (linkPlace k s) 0 ≡ j → 0 < j → j ≤ c → met < c
       → follow w c (suc n) k at met ≡ follow w c n j (linkPlace k s) (suc met)
   unfolding follow
-  follow-son n k at met j s q e pos le lt = rw (q, e, ne-eqb j 0 (omega arith), le-leb j c le, lt-ltb met c lt) refl
+  follow-child n k at met j s q e pos le lt = rw (q, e, ne-eqb j 0 (omega arith), le-leb j c le, lt-ltb met c lt) refl
 
 -- the same walk, from the cell before
-terminal-son : {w : List ℕ} {c n j met : ℕ} {x y : Tree} (k at : ℕ) (l r : Tree) (s : Side) → son s l r ≡ node j x y
+terminal-child : {w : List ℕ} {c n j met : ℕ} {x y : Tree} (k at : ℕ) (l r : Tree) (s : Side) → child s l r ≡ node j x y
     → follow w c (suc n) k at met ≡ follow w c n j (linkPlace k s) (suc met) → Terminal w c n j (linkPlace k s) (suc met) x y → Terminal w c (suc n) k at met l r
-terminal-son {n = n} k at l r s e f t =
-    let part : Part (suc n) (linkPlace k s) (son s l r) (suc (t .below)) (t .leafAt) (node (t .leaf) blank blank) = rw e (t .part) in
-    record { leaf = t .leaf; leafAt = t .leafAt; below = t .below; part = part-son s part; found = f ∙ t .found }
+terminal-child {n = n} k at l r s e f t =
+    let part : Part (suc n) (linkPlace k s) (child s l r) (suc (t .below)) (t .leafAt) (node (t .leaf) blank blank) = rw e (t .part) in
+    record { leaf = t .leaf; leafAt = t .leafAt; below = t .below; part = part-child s part; found = f ∙ t .found }
 
 pub follow-terminal : {w : List ℕ} {c j : ℕ} {g : Region} {l r : Tree} (n k at met : ℕ) → Spells w c (suc n) g j (node k l r) → met + size (node k l r) ≤ suc c
     → Terminal w c n k at met l r
-follow-terminal {w} {c} {l = l} {r = r} zero k at met sp few = go (next-of k refl refl (spells-son Left sp) (spells-son Right sp))
+follow-terminal {w} {c} {l = l} {r = r} zero k at met sp few = go (next-of k refl refl (spells-child Left sp) (spells-child Right sp))
   where
     go : Next w k l r → Terminal w c zero k at met l r
     go (next-none e f i) = rw (e, f) (terminal-here (follow-none w c zero k at met i))
-    go (next-son s j x y e q) = absurd (no-node (rw e at (spells-son s sp)))
+    go (next-child s j x y e q) = absurd (no-node (rw e at (spells-child s sp)))
 follow-terminal {w} {c} {l = l} {r = r} (suc n) k at met sp few =
-    go (λ s j x y i h. follow-terminal n j (linkPlace k s) (suc met)) (next-of k refl refl (spells-son Left sp) (spells-son Right sp))
+    go (λ s j x y i h. follow-terminal n j (linkPlace k s) (suc met)) (next-of k refl refl (spells-child Left sp) (spells-child Right sp))
   where
     go : ((s : Side) (j : ℕ) (x y : Tree) (i : ℕ) (h : Region) → Spells w c (suc n) h i (node j x y) → suc met + size (node j x y) ≤ suc c → Terminal w c n j (linkPlace k s) (suc met) x y)
         → Next w k l r → Terminal w c (suc n) k at met l r
     go ih (next-none e f i) = rw (e, f) (terminal-here (follow-none w c (suc n) k at met i))
-    go ih (next-son s j x y e q) =
-        let below = rw e at (spells-son s sp) in
+    go ih (next-child s j x y e q) =
+        let below = rw e at (spells-child s sp) in
         let first = spells-cell below in
-        let small : size (node j x y) < size (node k l r) = rw e at (size-son s k l r) in
-        terminal-son k at l r s e
-        (follow-son w c n k at met j s q (first .link) (first .pos) (first .le) (omega (arith, size-some j x y)))
+        let small : size (node j x y) < size (node k l r) = rw e at (size-child s k l r) in
+        terminal-child k at l r s e
+        (follow-child w c n k at met j s q (first .link) (first .pos) (first .le) (omega (arith, size-some j x y)))
         (ih s j x y _ _ below (omega arith))
 
 -- the whole walk from a cell that hangs in the tree

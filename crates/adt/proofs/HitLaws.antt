@@ -13,8 +13,8 @@ use lib.Dec.{eqb, ltb}
 use lib.ListN.{length, take, getD, length-take}
 use lib.Seq.{getD-take, length-take-le}
 use borrow.Author.Tests.{eqb-false, ltb-false}
-use Rattle.lists.specs.Tests.{keep, any}
-use Rattle.lists.proofs.TestLaws.{keep-mem}
+use Rattle.lists.specs.Tests.{filter, any}
+use Rattle.lists.proofs.TestLaws.{filter-mem}
 use Rattle.lists.proofs.ElementLaws.{mem-getD}
 use Rattle.geometry.specs.declared.Side.the-variants.{Left, Right}
 use Rattle.geometry.specs.Axis.{axisOf}
@@ -24,7 +24,7 @@ use Rattle.model.specs.Limits.{maxGrants}
 use Rattle.pool.specs.Capacity.{capacityOf}
 use Rattle.adt.specs.Node.{linkPlace}
 use Rattle.adt.specs.Search.{Spot, Search, broken, going, search}
-use Rattle.adt.specs.SearchMemory.{foundIn, searchIn, Stands}
+use Rattle.adt.specs.SearchMemory.{foundIn, searchIn, Encodes}
 use Rattle.adt.specs.Links.{Link, brokenBy, searchFrom, searchLinks, isHit, hitsAmong}
 use Rattle.adt.proofs.LinkLaws.{or-left, or-right}
 use Rattle.adt.proofs.SearchLinks.{search-going}
@@ -87,12 +87,12 @@ unfolding brokenBy hitsAmong searchLinks
 hits-within w q met hits first e k m =
     let s = search-going w q met hits first e in
     let f = map-mem _ k (subst (List·Memᴰ k) (s .found) m) in
-    let on = keep-mem (isHit w q) _ (f .0) (f .2) .0 in
+    let on = filter-mem (isHit w q) _ (f .0) (f .2) .0 in
     let some = links-some w q _ _ _ _ (f .0) on in
     let few = unbroken-below (capacityOf w) _ (or-left _ _ (s .whole)) (f .0) on in
     record { some = subst (λ (x : ℕ). 0 < x) (f .1) some; few = subst (λ (x : ℕ). x ≤ capacityOf w) (f .1) few }
 
-pub stands-within : (w : List ℕ) (q : Region) {c : ℕ} {h t : List ℕ} → Stands c true h t (search w q) → c ≤ maxGrants → capacityOf w ≡ c
+pub stands-within : (w : List ℕ) (q : Region) {c : ℕ} {h t : List ℕ} → Encodes c true h t (search w q) → c ≤ maxGrants → capacityOf w ≡ c
     → (i : ℕ) → i < foundIn t → IsCell c (getD h i 0)
 stands-within w q {c} {h} {t} s few e i lt =
     let n = s .counted in

@@ -1,7 +1,7 @@
--- A grant that is hung where its point leads: the tree then has the free head's cell in it, and all else stays.
+-- A grant that is added where its point leads: the tree then has the free head's cell in it, and all else stays.
 --   BlankPart p n at t g link      the place `link` is blank in the tree t, which hangs at the place `at`, and the point p lies in the
 --                                  region there
---   wayDown-blank, descend-blank   the way down ends at such a place
+--   descendFrom-blank, descend-blank   the way down ends at such a place
 --   inserted-*                     reads of the words then
 --   FirstFree, chain-first         the first cell of a free chain
 --   Inserted w v c t k ks g        what an insertion leaves: the words v, with the grant g in the cell k among those of t, and ks free
@@ -35,10 +35,10 @@ use Rattle.pool.specs.Cell.{grantAt, cellOf, withCell}
 use Rattle.pool.proofs.LayoutLaws.{field-set-header}
 use Rattle.pool.proofs.CellLaws.{SameGrantWords, length-withCell, field-withCell-same, field-withCell-other, header-withCell, grantAt-same, grantAt-withCell-same}
 use Rattle.adt.specs.Node.{linkField, linkPlace}
-use Rattle.adt.specs.Insert.{Way, lost, blankAt, wayDown, descend, freeHead, nextFree, inserted}
+use Rattle.adt.specs.Insert.{InsertionWalk, broken, blankAt, descendFrom, descend, freeHead, nextFree, inserted}
 use Rattle.adt.proofs.Spells.{Tree, blank, node, cellsOf, Spells, spells-blank, spells-node, FreeChain, chain-more}
-use Rattle.adt.proofs.TreeLaws.{son, spells-son}
-use Rattle.adt.proofs.PartLaws.{Part, part-here, part-son}
+use Rattle.adt.proofs.TreeLaws.{child, spells-child}
+use Rattle.adt.proofs.PartLaws.{Part, part-here, part-child}
 use Rattle.adt.proofs.NodeLaws.{Away, root-away, other-away, Hook, hook-root, hook-link, hook-within, hook-header, hook-not-free, field-set-hook, hook-withCell}
 use Rattle.adt.proofs.FrameLaws.{chain-frame}
 use Rattle.adt.proofs.PartRegion.{regionIn}
@@ -50,80 +50,80 @@ pub record BlankPart (p : List ℕ) (n at : ℕ) (t : Tree) (g : Region) (link :
   pub part : Part n at t (suc below) link blank
   pub inside : inside (regionIn part g) p ≡ true
 
-blank-son : {p : List ℕ} {n at k : ℕ} {l r : Tree} {g : Region} {link : ℕ} (s : Side)
-    → BlankPart p n (linkPlace k s) (son s l r) (half s g (axisOf (levels - n))) link → BlankPart p (suc n) at (node k l r) g link
+blank-child : {p : List ℕ} {n at k : ℕ} {l r : Tree} {g : Region} {link : ℕ} (s : Side)
+    → BlankPart p n (linkPlace k s) (child s l r) (half s g (axisOf (levels - n))) link → BlankPart p (suc n) at (node k l r) g link
 unfolding regionIn
-blank-son s b = record { below = b .below; part = part-son s (b .part); inside = b .inside }
+blank-child s b = record { below = b .below; part = part-child s (b .part); inside = b .inside }
 
--- the end of a way that is not lost
-way-on : (t : Bool) (way : Way) (link : ℕ) → cond t way lost ≡ blankAt link → way ≡ blankAt link
-way-on true way link e = e
-way-on false way link e = absurd (let z : _≡_ {A = ℕ} 0 1 = cc in omega arith)
+-- the end of a way that is not broken
+descent-on : (t : Bool) (way : InsertionWalk) (link : ℕ) → cond t way broken ≡ blankAt link → way ≡ blankAt link
+descent-on true way link e = e
+descent-on false way link e = absurd (let z : _≡_ {A = ℕ} 0 1 = cc in omega arith)
 
 blank-here : {p : List ℕ} {n at : ℕ} {g : Region} {link : ℕ} → inside g p ≡ true → at ≡ link → BlankPart p (suc n) at blank g link
 unfolding regionIn
 blank-here {p} {n} {at} {g} i e = subst (BlankPart p (suc n) at blank g) e (record { below = n; part = part-here; inside = i })
 
-pub wayDown-blank : {w : List ℕ} {c k : ℕ} {t : Tree} {g : Region} {link : ℕ} (p : List ℕ) (n at met : ℕ) → Spells w c n g k t → getD w at 0 ≡ k
-    → Shape g → inside g p ≡ true → wayDown w c p n at g met ≡ blankAt link → BlankPart p n at t g link
-unfolding wayDown
-wayDown-blank p zero at met sp e shape i found = absurd (let z : _≡_ {A = ℕ} 0 1 = cc in omega arith)
-wayDown-blank {w} {link = link} p (suc n) at met spells-blank e shape i found =
+pub descendFrom-blank : {w : List ℕ} {c k : ℕ} {t : Tree} {g : Region} {link : ℕ} (p : List ℕ) (n at met : ℕ) → Spells w c n g k t → getD w at 0 ≡ k
+    → Shape g → inside g p ≡ true → descendFrom w c p n at g met ≡ blankAt link → BlankPart p n at t g link
+unfolding descendFrom
+descendFrom-blank p zero at met sp e shape i found = absurd (let z : _≡_ {A = ℕ} 0 1 = cc in omega arith)
+descendFrom-blank {w} {link = link} p (suc n) at met spells-blank e shape i found =
     let here : blankAt at ≡ blankAt link = rw (eq-eqb (getD w at 0) 0 e) at found in
     blank-here i (cc)
-wayDown-blank {w} {c} {link = link} p (suc n) at met (spells-node {g = g} {k = k} {l = l} {r = r} pos le j x y) e shape i found =
+descendFrom-blank {w} {c} {link = link} p (suc n) at met (spells-node {g = g} {k = k} {l = l} {r = r} pos le j x y) e shape i found =
     let a = axisOf (levels - n) in
     let lt = axis-lt (levels - n) in
     let s = sideOf g a (getD p a 0) in
-    let on : cond (leb k c && ltb met c) (wayDown w c p n (linkPlace k s) (half s g a) (suc met)) lost ≡ blankAt link = rw (e, ne-eqb k 0 (omega arith)) at found in
-    blank-son s
-    (wayDown-blank p n (linkPlace k s) (suc met) (spells-son s (spells-node pos le j x y)) refl (half-shape s g a shape lt) (inside-half g a shape lt p i)
-    (way-on (leb k c && ltb met c) (wayDown w c p n (linkPlace k s) (half s g a) (suc met)) link on))
+    let on : cond (leb k c && ltb met c) (descendFrom w c p n (linkPlace k s) (half s g a) (suc met)) broken ≡ blankAt link = rw (e, ne-eqb k 0 (omega arith)) at found in
+    blank-child s
+    (descendFrom-blank p n (linkPlace k s) (suc met) (spells-child s (spells-node pos le j x y)) refl (half-shape s g a shape lt) (inside-half g a shape lt p i)
+    (descent-on (leb k c && ltb met c) (descendFrom w c p n (linkPlace k s) (half s g a) (suc met)) link on))
 
 pub descend-blank : {w : List ℕ} {c : ℕ} {t : Tree} {link : ℕ} (p : List ℕ) → capacityOf w ≡ c → Spells w c (suc levels) rootRegion (getD w rootPlace 0) t
     → inside rootRegion p ≡ true → descend w p ≡ blankAt link → BlankPart p (suc levels) rootPlace t rootRegion link
 unfolding descend
-descend-blank p cap sp i found = wayDown-blank p (suc levels) rootPlace 0 sp refl root-shape i (rw cap at found)
+descend-blank p cap sp i found = descendFrom-blank p (suc levels) rootPlace 0 sp refl root-shape i (rw cap at found)
 
 -- the words with the cell stored, and with its link
 abbrev stored : List ℕ → Grant → List ℕ
 stored w g = withCell w (freeHead w) (cellOf 0 0 g)
 
-abbrev hung : List ℕ → ℕ → Grant → List ℕ
-hung w at g = set (stored w g) at (freeHead w)
+abbrev added : List ℕ → ℕ → Grant → List ℕ
+added w at g = set (stored w g) at (freeHead w)
 
 -- the words after an insertion at a place where a cell may hang
 module _ (w : List ℕ) (g : Grant) {c at : ℕ} (hook : Hook c at) (long : length w ≡ poolLength c) (pos : 0 < freeHead w) (le : freeHead w ≤ c) where
-  length-hung : length (hung w at g) ≡ poolLength c
-  length-hung = length-set (stored w g) at (freeHead w) ∙ length-withCell w (freeHead w) (cellOf 0 0 g) ∙ long
+  length-added : length (added w at g) ≡ poolLength c
+  length-added = length-set (stored w g) at (freeHead w) ∙ length-withCell w (freeHead w) (cellOf 0 0 g) ∙ long
 
   pub inserted-long : length (inserted w at g) ≡ poolLength c
   unfolding inserted
-  inserted-long = length-set (hung w at g) freePlace (nextFree w) ∙ length-hung
+  inserted-long = length-set (added w at g) freePlace (nextFree w) ∙ length-added
 
   pub inserted-capacity : getD (inserted w at g) capacityPlace 0 ≡ getD w capacityPlace 0
   unfolding inserted
   inserted-capacity =
-      getD-set-other (hung w at g) freePlace capacityPlace (nextFree w) 0 (omega arith)
+      getD-set-other (added w at g) freePlace capacityPlace (nextFree w) 0 (omega arith)
       ∙ getD-set-other (stored w g) at capacityPlace (freeHead w) 0 (hook-header capacityPlace hook (omega arith) (omega arith))
       ∙ header-withCell w (freeHead w) (cellOf 0 0 g) refl capacityPlace (omega arith)
 
   pub inserted-freeHead : freeHead (inserted w at g) ≡ nextFree w
   unfolding inserted
-  inserted-freeHead = getD-set-same (hung w at g) freePlace (nextFree w) 0 (omega (arith, length-hung))
+  inserted-freeHead = getD-set-same (added w at g) freePlace (nextFree w) 0 (omega (arith, length-added))
 
   -- where it hangs
   pub inserted-here : getD (inserted w at g) at 0 ≡ freeHead w
   unfolding inserted
   inserted-here =
-      getD-set-other (hung w at g) freePlace at (nextFree w) 0 (hook-not-free hook)
+      getD-set-other (added w at g) freePlace at (nextFree w) 0 (hook-not-free hook)
       ∙ getD-set-same (stored w g) at (freeHead w) 0 (omega (arith, hook-within hook, length-withCell w (freeHead w) (cellOf 0 0 g)))
 
   -- where others hang
   pub inserted-other : {link : ℕ} → Hook c link → link ≢ at → Away link (freeHead w) → getD (inserted w at g) link 0 ≡ getD w link 0
   unfolding inserted
   inserted-other {link} other apart away =
-      getD-set-other (hung w at g) freePlace link (nextFree w) 0 (hook-not-free other)
+      getD-set-other (added w at g) freePlace link (nextFree w) 0 (hook-not-free other)
       ∙ getD-set-other (stored w g) at link (freeHead w) 0 apart
       ∙ hook-withCell w (freeHead w) (cellOf 0 0 g) refl pos other away
 
@@ -131,7 +131,7 @@ module _ (w : List ℕ) (g : Grant) {c at : ℕ} (hook : Hook c at) (long : leng
   pub inserted-links : (s : Side) → Away at (freeHead w) → getD (inserted w at g) (linkPlace (freeHead w) s) 0 ≡ 0
   unfolding inserted fieldOf
   inserted-links s away =
-      getD-set-other (hung w at g) freePlace (linkPlace (freeHead w) s) (nextFree w) 0 (hook-not-free {c = c} (hook-link s pos le))
+      getD-set-other (added w at g) freePlace (linkPlace (freeHead w) s) (nextFree w) 0 (hook-not-free {c = c} (hook-link s pos le))
       ∙ getD-set-other (stored w g) at (linkPlace (freeHead w) s) (freeHead w) 0 (away s)
       ∙ field-withCell-same w (freeHead w) (cellOf 0 0 g) refl c (linkField s) pos le long
       ∙ go s
@@ -144,7 +144,7 @@ module _ (w : List ℕ) (g : Grant) {c at : ℕ} (hook : Hook c at) (long : leng
   pub inserted-words : SameGrantWords (stored w g) (inserted w at g) (freeHead w)
   unfolding inserted
   inserted-words f h =
-      field-set-header (hung w at g) freePlace (freeHead w) f (nextFree w) (omega arith)
+      field-set-header (added w at g) freePlace (freeHead w) f (nextFree w) (omega arith)
       ∙ field-set-hook (stored w g) (freeHead w) (freeHead w) f hook h
 
   pub inserted-grant : GrantFits g → grantAt (inserted w at g) (freeHead w) ≡ g
@@ -153,7 +153,7 @@ module _ (w : List ℕ) (g : Grant) {c at : ℕ} (hook : Hook c at) (long : leng
   pub inserted-kept : (k : ℕ) → 0 < k → ¬ (k ≡ freeHead w) → SameGrantWords w (inserted w at g) k
   unfolding inserted
   inserted-kept k hk n f h =
-      field-set-header (hung w at g) freePlace k f (nextFree w) (omega arith)
+      field-set-header (added w at g) freePlace k f (nextFree w) (omega arith)
       ∙ field-set-hook (stored w g) k (freeHead w) f hook h
       ∙ field-withCell-other w (freeHead w) (cellOf 0 0 g) refl k f hk pos n
 

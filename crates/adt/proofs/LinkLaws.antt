@@ -19,7 +19,7 @@ use lib.ListN.{length}
 use native.Mathlib.Decide.{decLe, decLt}
 use native.Mathlib.Omega.{arith}
 use borrow.Author.Tests.{ltb-false, lt-ltb, le-ltb, le-leb, lt-leb}
-use Rattle.lists.specs.Tests.{keep, any}
+use Rattle.lists.specs.Tests.{filter, any}
 use Rattle.geometry.specs.Levels.{levels}
 use Rattle.adt.specs.Links.{Link, brokenBy}
 
@@ -72,12 +72,12 @@ brokenBy-next c met link links rest above goes = go (decLe (link .to) c) (decLt 
     go (yes low) (yes room) = rw (le-leb (link .to) c low, lt-ltb met c room) (goes room ∙ sym (brokenBy-more c met link links low above))
 
 -- where no element of a list passes one test, the first that passes another does not pass it either
-first-kept : {A : Type 0} (t u : A → Bool) (xs : List A) (y : A) (ys : List A) → any t xs ≡ false → keep u xs ≡ y ∷ ys → t y ≡ false
-unfolding any keep
+first-kept : {A : Type 0} (t u : A → Bool) (xs : List A) (y : A) (ys : List A) → any t xs ≡ false → filter u xs ≡ y ∷ ys → t y ≡ false
+unfolding any filter
 first-kept t u [] y ys e k = absurd (nil≢cons k)
 first-kept t u (x ∷ xs) y ys e k = go (u x) k (first-kept t u xs y ys (or-right (t x) (any t xs) e))
   where
-    go : (b : Bool) → cond b (x ∷ keep u xs) (keep u xs) ≡ y ∷ ys → (keep u xs ≡ y ∷ ys → t y ≡ false) → t y ≡ false
+    go : (b : Bool) → cond b (x ∷ filter u xs) (filter u xs) ≡ y ∷ ys → (filter u xs ≡ y ∷ ys → t y ≡ false) → t y ≡ false
     go true k rest = ap t (sym (head-eq-of-cons-eq k)) ∙ or-left (t x) (any t xs) e
     go false k rest = rest k
 
@@ -93,7 +93,7 @@ module _ (c met : ℕ) (links : List Link) (whole : brokenBy c met links ≡ fal
   unfolding brokenBy
   unbroken-few = ltb-false c (met + length links) (or-right (any wrong links) (ltb c (met + length links)) whole)
 
-  pub unbroken-first : (t : Link → Bool) (f : Link) (fs : List Link) → keep t links ≡ f ∷ fs → Within c f
+  pub unbroken-first : (t : Link → Bool) (f : Link) (fs : List Link) → filter t links ≡ f ∷ fs → Within c f
   unfolding brokenBy
   unbroken-first t f fs kept =
       let right : wrong f ≡ false = first-kept wrong t links f fs (or-left (any wrong links) (ltb c (met + length links)) whole) kept in

@@ -12,11 +12,11 @@ use mathlib.Core.Bool.{not}
 use mathlib.Core.List.{List, [], _∷_, map, List·Memᴰ, List·Memᴰ·head, List·Memᴰ·tail, Memᴰ·map, Memᴰ·cast}
 use lib.Dec.{eqb}
 use borrow.Author.Tests.{eq-eqb, ne-eqb}
-use Rattle.lists.specs.Tests.{keep}
+use Rattle.lists.specs.Tests.{filter}
 use Rattle.lists.specs.Sort.{insertBy, sortBy}
 use Rattle.lists.proofs.DistinctLaws.{Distinct, distinct-more}
 use Rattle.lists.proofs.PermLaws.{Put, put-map, distinct-put, Perm, perm-sym, perm-map, perm-distinct}
-use Rattle.lists.proofs.SortLaws.{put-insertBy, sortBy-mem, sortBy-put, sortBy-perm, keep-put}
+use Rattle.lists.proofs.SortLaws.{put-insertBy, sortBy-mem, sortBy-put, sortBy-perm, filter-put}
 use Rattle.model.specs.declared.Grant.{Grant}
 use Rattle.pool.specs.Cell.{grantAt}
 use Rattle.adt.proofs.Spells.{Tree, cellsOf}
@@ -71,9 +71,9 @@ module _ {w v : List ℕ} {c : ℕ} {t : Tree} {k : ℕ} {ks : List ℕ} (r : Re
   pub removed-numbers : Distinct (numbersOf v (r .tree))
   removed-numbers = rest-distinct distinct-more-numbers
 
-  pub live-removed : keep (λ g. not (eqb (g .number) (grantAt w k .number))) (live w t) ≡ live v (r .tree)
+  pub live-removed : filter (λ g. not (eqb (g .number) (grantAt w k .number))) (live w t) ≡ live v (r .tree)
   unfolding sortBy
   live-removed =
-      ap (keep (λ g. not (eqb (g .number) (grantAt w k .number)))) (sym (sortBy-perm number perm-grants distinct-more-numbers))
-      ∙ keep-put _ (put-insertBy number (grantAt w k) (live v (r .tree))) (ap not (eq-eqb (grantAt w k .number) (grantAt w k .number) refl))
+      ap (filter (λ g. not (eqb (g .number) (grantAt w k .number)))) (sym (sortBy-perm number perm-grants distinct-more-numbers))
+      ∙ filter-put _ (put-insertBy number (grantAt w k) (live v (r .tree))) (ap not (eq-eqb (grantAt w k .number) (grantAt w k .number) refl))
       (λ g m. ap not (ne-eqb (g .number) (grantAt w k .number) (λ e. first-apart distinct-more-numbers (Memᴰ·cast (sym e) (number-mem (grantsOf v (r .tree)) g m)))))

@@ -1,5 +1,5 @@
 -- Where the parts and the cells of a tree hang.
---   Part n at t m link u      in the tree t, which hangs at the place `at` with n levels left below the father, the part u hangs at the
+--   Part n at t m link u      in the tree t, which hangs at the place `at` with n levels left below the parent, the part u hangs at the
 --                             place `link`, with m levels left
 --   part-levels, part-cells   a part has no more levels left than the tree, and its cells are the tree's
 --   part-spells               the link of a part spells it
@@ -24,19 +24,19 @@ use Rattle.geometry.proofs.RegionLaws.{Shape, half-shape}
 use Rattle.adt.specs.Node.{linkPlace}
 use Rattle.adt.specs.Search.{Spot}
 use Rattle.adt.proofs.Spells.{Tree, blank, node, cellsOf, Spells, spells-blank, spells-node}
-use Rattle.adt.proofs.TreeLaws.{son, son-cells, spells-son}
+use Rattle.adt.proofs.TreeLaws.{child, child-cells, spells-child}
 
 pub data Part : ℕ → ℕ → Tree → ℕ → ℕ → Tree → Type 0 where
   part-here : {n at : ℕ} {t : Tree} → Part n at t n at t
-  part-son : {n at m link k : ℕ} {l r u : Tree} (s : Side) → Part n (linkPlace k s) (son s l r) m link u → Part (suc n) at (node k l r) m link u
+  part-child : {n at m link k : ℕ} {l r u : Tree} (s : Side) → Part n (linkPlace k s) (child s l r) m link u → Part (suc n) at (node k l r) m link u
 
 pub part-levels : {n at m link : ℕ} {t u : Tree} → Part n at t m link u → m ≤ n
 part-levels part-here = omega arith
-part-levels (part-son s p) = omega (arith, part-levels p)
+part-levels (part-child s p) = omega (arith, part-levels p)
 
 pub part-cells : {n at m link : ℕ} {t u : Tree} → Part n at t m link u → (j : ℕ) → List·Memᴰ j (cellsOf u) → List·Memᴰ j (cellsOf t)
 part-cells part-here j i = i
-part-cells (part-son {k = k} {l = l} {r = r} s p) j i = son-cells s k l r j (part-cells p j i)
+part-cells (part-child {k = k} {l = l} {r = r} s p) j i = child-cells s k l r j (part-cells p j i)
 
 -- of a part of a spelled tree: its region has the shape, and its link spells it there
 pub record PartSpells (w : List ℕ) (c m link : ℕ) (u : Tree) : Type 0 where
@@ -47,8 +47,8 @@ pub record PartSpells (w : List ℕ) (c m link : ℕ) (u : Tree) : Type 0 where
 pub part-spells : {w : List ℕ} {c n at m link k : ℕ} {g : Region} {t u : Tree} → Part n at t m link u → getD w at 0 ≡ k → Shape g → Spells w c n g k t
     → PartSpells w c m link u
 part-spells {g = g} part-here e v s = record { region = g; shape = v; spells = rw e s }
-part-spells {g = g} (part-son {n = n} s p) e v x =
-    part-spells p refl (half-shape s g (axisOf (levels - n)) v (axis-lt (levels - n))) (spells-son s x)
+part-spells {g = g} (part-child {n = n} s p) e v x =
+    part-spells p refl (half-shape s g (axisOf (levels - n)) v (axis-lt (levels - n))) (spells-child s x)
 
 pub record HangsAt (n at : ℕ) (t : Tree) (k : ℕ) (spot : Spot) : Type 0 where
   pub below : ℕ
@@ -95,8 +95,8 @@ placed-hangs (suc n) at (node k l r) p (List·Memᴰ·tail m) =
     go (placed-hangs n (linkPlace k Left) l p) (placed-hangs n (linkPlace k Right) r p)
     (List·Memᴰ·append-cases (placedIn n (linkPlace k Left) l) m)
   where
-    on : (s : Side) → HangsAt n (linkPlace k s) (son s l r) (p .cell) (p .spot) → HangsAt (suc n) at (node k l r) (p .cell) (p .spot)
-    on s h = record { below = h .below; left = h .left; right = h .right; part = part-son s (h .part); level = h .level }
+    on : (s : Side) → HangsAt n (linkPlace k s) (child s l r) (p .cell) (p .spot) → HangsAt (suc n) at (node k l r) (p .cell) (p .spot)
+    on s h = record { below = h .below; left = h .left; right = h .right; part = part-child s (h .part); level = h .level }
 
     go : (List·Memᴰ p (placedIn n (linkPlace k Left) l) → HangsAt n (linkPlace k Left) l (p .cell) (p .spot))
         → (List·Memᴰ p (placedIn n (linkPlace k Right) r) → HangsAt n (linkPlace k Right) r (p .cell) (p .spot))

@@ -13,20 +13,20 @@ use Rattle.geometry.specs.Region.{Region, half}
 use Rattle.geometry.proofs.AxisLaws.{axis-lt}
 use Rattle.geometry.proofs.RegionLaws.{Shape, half-shape}
 use Rattle.adt.proofs.Spells.{Tree, Spells}
-use Rattle.adt.proofs.TreeLaws.{spells-son}
-use Rattle.adt.proofs.PartLaws.{Part, part-here, part-son}
+use Rattle.adt.proofs.TreeLaws.{spells-child}
+use Rattle.adt.proofs.PartLaws.{Part, part-here, part-child}
 
 unfoldable pub regionIn : {n at m link : ℕ} {t u : Tree} → Part n at t m link u → Region → Region
 regionIn part-here g = g
-regionIn (part-son {n = n} s q) g = regionIn q (half s g (axisOf (levels - n)))
+regionIn (part-child {n = n} s q) g = regionIn q (half s g (axisOf (levels - n)))
 
 pub region-shape : {n at m link : ℕ} {t u : Tree} {g : Region} (q : Part n at t m link u) → Shape g → Shape (regionIn q g)
 unfolding regionIn
 region-shape part-here v = v
-region-shape {g = g} (part-son {n = n} s q) v = region-shape q (half-shape s g (axisOf (levels - n)) v (axis-lt (levels - n)))
+region-shape {g = g} (part-child {n = n} s q) v = region-shape q (half-shape s g (axisOf (levels - n)) v (axis-lt (levels - n)))
 
 pub region-spells : {w : List ℕ} {c n at m link k : ℕ} {g : Region} {t u : Tree} (q : Part n at t m link u) → getD w at 0 ≡ k → Spells w c n g k t
     → Spells w c m (regionIn q g) (getD w link 0) u
 unfolding regionIn
 region-spells part-here e x = rw e x
-region-spells (part-son s q) e x = region-spells q refl (spells-son s x)
+region-spells (part-child s q) e x = region-spells q refl (spells-child s x)

@@ -35,9 +35,9 @@ use Rattle.geometry.specs.Region.{Region, half}
 use Rattle.geometry.specs.Point.{inside}
 use Rattle.pool.specs.Cell.{grantWords}
 use Rattle.adt.specs.Node.{linkPlace, pointAt}
-use Rattle.adt.specs.Reach.{sonOf, nodeAt, freeAt, Path, fromRoot, fromFree, endOf, Once, regionOf, Carries}
+use Rattle.adt.specs.Reach.{childOf, nodeAt, freeAt, Path, fromRoot, fromFree, endOf, Once, regionOf, Carries}
 use Rattle.adt.proofs.Spells.{Tree, blank, node, cellsOf, Spells, spells-blank, spells-node, FreeChain, chain-end, chain-more}
-use Rattle.adt.proofs.TreeLaws.{son, spells-son}
+use Rattle.adt.proofs.TreeLaws.{child, spells-child}
 use Rattle.adt.proofs.ChainLaws.{chain-le}
 use Rattle.adt.proofs.Linked.{Linked, linked-distinct, linked-all}
 
@@ -70,26 +70,26 @@ abbrev pub pathsOf : Tree → List ℕ → List Path
 pathsOf t ks = map fromRoot (pathsIn [] t) ++ map fromFree (countFrom 0 (length ks))
 
 module _ (w : List ℕ) where
-  -- the son of a cell is its link, and there is none behind a blank link
-  son-link : (k : ℕ) (s : Side) → 0 < k → sonOf w k s ≡ getD w (linkPlace k s) 0
-  son-link k s pos = rw (ne-eqb k 0 (omega arith))
+  -- the child of a cell is its link, and there is none behind a blank link
+  child-link : (k : ℕ) (s : Side) → 0 < k → childOf w k s ≡ getD w (linkPlace k s) 0
+  child-link k s pos = rw (ne-eqb k 0 (omega arith))
 
-  son-some : (k : ℕ) (s : Side) → 0 < sonOf w k s → 0 < k
-  son-some zero s h = h
-  son-some (suc k) s h = omega arith
+  child-some : (k : ℕ) (s : Side) → 0 < childOf w k s → 0 < k
+  child-some zero s h = h
+  child-some (suc k) s h = omega arith
 
   -- the next link on a path
-  path-son : (p : List Side) (s : Side) {k : ℕ} → nodeAt w p ≡ k → 0 < k → nodeAt w (s ∷ p) ≡ getD w (linkPlace k s) 0
+  path-child : (p : List Side) (s : Side) {k : ℕ} → nodeAt w p ≡ k → 0 < k → nodeAt w (s ∷ p) ≡ getD w (linkPlace k s) 0
   unfolding nodeAt
-  path-son p s {k} e pos = ap (λ (j : ℕ). sonOf w j s) e ∙ son-link k s pos
+  path-child p s {k} e pos = ap (λ (j : ℕ). childOf w j s) e ∙ child-link k s pos
 
   path-before : (p : List Side) (s : Side) → 0 < nodeAt w (s ∷ p) → 0 < nodeAt w p
   unfolding nodeAt
-  path-before p s h = son-some (nodeAt w p) s h
+  path-before p s h = child-some (nodeAt w p) s h
 
   free-next : (n : ℕ) {k : ℕ} → freeAt w n ≡ k → 0 < k → freeAt w (suc n) ≡ getD w (linkPlace k Left) 0
   unfolding freeAt
-  free-next n {k} e pos = ap (λ (j : ℕ). sonOf w j Left) e ∙ son-link k Left pos
+  free-next n {k} e pos = ap (λ (j : ℕ). childOf w j Left) e ∙ child-link k Left pos
 
   module _ (c : ℕ) where
     ends-paths : {m k : ℕ} {g : Region} {t : Tree} (p : List Side) → nodeAt w p ≡ k → Spells w c m g k t → map (nodeAt w) (pathsIn p t) ≡ cellsOf t
@@ -98,7 +98,7 @@ module _ (w : List ℕ) where
     ends-paths p e (spells-node {k = k} {l = l} {r = r} pos le i x y) =
         ap₂ (λ (j : ℕ) (js : List ℕ). j ∷ js) e
         (map-append (nodeAt w) (pathsIn (Left ∷ p) l) (pathsIn (Right ∷ p) r)
-        ∙ ap₂ (λ (is js : List ℕ). is ++ js) (ends-paths (Left ∷ p) (path-son p Left e pos) x) (ends-paths (Right ∷ p) (path-son p Right e pos) y))
+        ∙ ap₂ (λ (is js : List ℕ). is ++ js) (ends-paths (Left ∷ p) (path-child p Left e pos) x) (ends-paths (Right ∷ p) (path-child p Right e pos) y))
 
     ends-free : {k : ℕ} {ks : List ℕ} (n : ℕ) → freeAt w n ≡ k → FreeChain w c k ks → map (freeAt w) (countFrom n (length ks)) ≡ ks
     unfolding countFrom
@@ -111,11 +111,11 @@ module _ (w : List ℕ) where
     paths-first p h spells-blank = absurd (omega arith)
     paths-first p h (spells-node pos le i x y) = List·Memᴰ·head refl
 
-    -- the paths of a node are its own, and those of its sons
-    paths-son : (s : Side) (p : List Side) (k : ℕ) (l r : Tree) (q : List Side) → List·Memᴰ q (pathsIn (s ∷ p) (son s l r)) → List·Memᴰ q (pathsIn p (node k l r))
+    -- the paths of a node are its own, and those of its children
+    paths-child : (s : Side) (p : List Side) (k : ℕ) (l r : Tree) (q : List Side) → List·Memᴰ q (pathsIn (s ∷ p) (child s l r)) → List·Memᴰ q (pathsIn p (node k l r))
     unfolding pathsIn
-    paths-son Left p k l r q m = List·Memᴰ·tail (Memᴰ·append-left (pathsIn (Right ∷ p) r) m)
-    paths-son Right p k l r q m = List·Memᴰ·tail (Memᴰ·append-right (pathsIn (Left ∷ p) l) m)
+    paths-child Left p k l r q m = List·Memᴰ·tail (Memᴰ·append-left (pathsIn (Right ∷ p) r) m)
+    paths-child Right p k l r q m = List·Memᴰ·tail (Memᴰ·append-right (pathsIn (Left ∷ p) l) m)
 
     -- a path that goes on is one too, if it ends at a cell
     paths-more : {m k : ℕ} {g : Region} {t : Tree} (p : List Side) → nodeAt w p ≡ k → Spells w c m g k t → (q : List Side) (s : Side) → List·Memᴰ q (pathsIn p t)
@@ -123,26 +123,26 @@ module _ (w : List ℕ) where
     unfolding pathsIn
     paths-more p e spells-blank q s m h = absurd (List·Memᴰ·not-nil m)
     paths-more p e (spells-node {n = n} {g = g} {k = k} {l = l} {r = r} pos le i x y) q s (List·Memᴰ·head d) h =
-        let first : 0 < getD w (linkPlace k s) 0 = rw (ap (λ (z : List Side). nodeAt w (s ∷ z)) d ∙ path-son p s e pos) at h in
-        Memᴰ·cast (ap (λ (z : List Side). s ∷ z) d) (paths-son s p k l r (s ∷ p) (paths-first (s ∷ p) first (spells-son s (spells-node {n = n} {g = g} pos le i x y))))
+        let first : 0 < getD w (linkPlace k s) 0 = rw (ap (λ (z : List Side). nodeAt w (s ∷ z)) d ∙ path-child p s e pos) at h in
+        Memᴰ·cast (ap (λ (z : List Side). s ∷ z) d) (paths-child s p k l r (s ∷ p) (paths-first (s ∷ p) first (spells-child s (spells-node {n = n} {g = g} pos le i x y))))
     paths-more p e (spells-node {k = k} {l = l} {r = r} pos le i x y) q s (List·Memᴰ·tail m) h =
-        go (paths-more (Left ∷ p) (path-son p Left e pos) x q s) (paths-more (Right ∷ p) (path-son p Right e pos) y q s) (List·Memᴰ·append-cases (pathsIn (Left ∷ p) l) m)
+        go (paths-more (Left ∷ p) (path-child p Left e pos) x q s) (paths-more (Right ∷ p) (path-child p Right e pos) y q s) (List·Memᴰ·append-cases (pathsIn (Left ∷ p) l) m)
       where
         go : (List·Memᴰ q (pathsIn (Left ∷ p) l) → 0 < nodeAt w (s ∷ q) → List·Memᴰ (s ∷ q) (pathsIn (Left ∷ p) l))
             → (List·Memᴰ q (pathsIn (Right ∷ p) r) → 0 < nodeAt w (s ∷ q) → List·Memᴰ (s ∷ q) (pathsIn (Right ∷ p) r))
             → List·Memᴰ q (pathsIn (Left ∷ p) l) ⊎ List·Memᴰ q (pathsIn (Right ∷ p) r) → List·Memᴰ (s ∷ q) (pathsIn p (node k l r))
-        go f f′ (inl j) = paths-son Left p k l r (s ∷ q) (f j h)
-        go f f′ (inr j) = paths-son Right p k l r (s ∷ q) (f′ j h)
+        go f f′ (inl j) = paths-child Left p k l r (s ∷ q) (f j h)
+        go f f′ (inr j) = paths-child Right p k l r (s ∷ q) (f′ j h)
 
--- one step further: a son of a spelled tree's first cell, and the next free cell
+-- one step further: a child of a spelled tree's first cell, and the next free cell
 module _ {w : List ℕ} {c : ℕ} where
   spells-step : {m k : ℕ} {g : Region} {t : Tree} (s : Side) (i : ℕ) → m ≡ suc levels - i → Spells w c m g k t
-      → (u : Tree) × Spells w c (suc levels - suc i) (half s g (axisOf i)) (sonOf w k s) u
+      → (u : Tree) × Spells w c (suc levels - suc i) (half s g (axisOf i)) (childOf w k s) u
   spells-step s i e spells-blank = (blank, spells-blank)
   spells-step s i e (spells-node {n = n} {g = g} {k = k} {l = l} {r = r} pos le j x y) =
       let here : levels - n ≡ i = omega arith in
       let left : n ≡ suc levels - suc i = omega arith in
-      (son s l r, rw (son-link w k s pos, ← left, ← here) (spells-son s (spells-node {n = n} {g = g} pos le j x y)))
+      (child s l r, rw (child-link w k s pos, ← left, ← here) (spells-child s (spells-node {n = n} {g = g} pos le j x y)))
 
   spells-le : {m k : ℕ} {g : Region} {t : Tree} → Spells w c m g k t → k ≤ c
   spells-le spells-blank = omega arith
@@ -152,9 +152,9 @@ module _ {w : List ℕ} {c : ℕ} where
   spells-inside h spells-blank = absurd (omega arith)
   spells-inside h (spells-node pos le j x y) = (j, omega arith)
 
-  chain-step : {k : ℕ} {ks : List ℕ} → FreeChain w c k ks → (js : List ℕ) × FreeChain w c (sonOf w k Left) js × (length js ≡ length ks - 1)
+  chain-step : {k : ℕ} {ks : List ℕ} → FreeChain w c k ks → (js : List ℕ) × FreeChain w c (childOf w k Left) js × (length js ≡ length ks - 1)
   chain-step chain-end = ([], chain-end, refl)
-  chain-step (chain-more {k = k} {ks = ks} pos le x) = (ks, rw (son-link w k Left pos) x, omega arith)
+  chain-step (chain-more {k = k} {ks = ks} pos le x) = (ks, rw (child-link w k Left pos) x, omega arith)
 
   chain-some : {k : ℕ} {ks : List ℕ} → 0 < k → FreeChain w c k ks → 0 < length ks
   chain-some h chain-end = h

@@ -1,7 +1,7 @@
--- The removal walk that stops and document 01's links of it are one walk: it is lost exactly where they are broken.
---   lostDescent          a walk as a test
---   follow-lost          from any cell on the walk
---   terminalFrom-lost    the whole walk from a cell at its own spot
+-- The removal walk that stops and document 01's links of it are one walk: it is broken exactly where they are broken.
+--   brokenRemoval          a walk as a test
+--   follow-broken          from any cell on the walk
+--   terminalFrom-broken    the whole walk from a cell at its own spot
 -- Assumes nothing.
 use Prim.Native.Nat.{ℕ, zero, suc, _+_, _-_, _≤_}
 use mathlib.Core.Path.{_≡_, refl, ap}
@@ -13,34 +13,34 @@ use native.Mathlib.Omega.{arith}
 use Rattle.geometry.specs.Levels.{levels}
 use Rattle.pool.specs.Capacity.{capacityOf}
 use Rattle.adt.specs.Search.{Spot}
-use Rattle.adt.specs.Remove.{Descent, lost, terminal, nextLink, follow, terminalFrom}
+use Rattle.adt.specs.Remove.{RemovalWalk, broken, terminal, nextLink, follow, terminalFrom}
 use Rattle.adt.specs.Links.{Link, brokenBy, removalFrom, removalLinks}
 use Rattle.adt.proofs.LinkLaws.{brokenBy-deep, brokenBy-blank, brokenBy-next}
 
-abbrev pub lostDescent : Descent → Bool
-lostDescent lost = true
-lostDescent (terminal leaf at) = false
+abbrev pub brokenRemoval : RemovalWalk → Bool
+brokenRemoval broken = true
+brokenRemoval (terminal leaf at) = false
 
-lostDescent-cond : (b : Bool) (x y : Descent) → lostDescent (cond b x y) ≡ cond b (lostDescent x) (lostDescent y)
-lostDescent-cond true x y = refl
-lostDescent-cond false x y = refl
+brokenRemoval-cond : (b : Bool) (x y : RemovalWalk) → brokenRemoval (cond b x y) ≡ cond b (brokenRemoval x) (brokenRemoval y)
+brokenRemoval-cond true x y = refl
+brokenRemoval-cond false x y = refl
 
 -- the cell k is at level l, n levels above the last
-pub follow-lost : (w : List ℕ) (c n l k at met : ℕ) → l + n ≡ levels → met ≤ c
-    → lostDescent (follow w c n k at met) ≡ brokenBy c met (removalFrom w n l k)
+pub follow-broken : (w : List ℕ) (c n l k at met : ℕ) → l + n ≡ levels → met ≤ c
+    → brokenRemoval (follow w c n k at met) ≡ brokenBy c met (removalFrom w n l k)
 unfolding follow removalFrom
-follow-lost w c zero l k at met depth few =
+follow-broken w c zero l k at met depth few =
     let next = getD w (nextLink w k) 0 in
     let here : Link = record { level = suc l; to = next } in
-    rw (lostDescent-cond, brokenBy-blank, brokenBy-deep c met here [] (omega arith))
-follow-lost w c (suc n) l k at met depth few =
+    rw (brokenRemoval-cond, brokenBy-blank, brokenBy-deep c met here [] (omega arith))
+follow-broken w c (suc n) l k at met depth few =
     let next = getD w (nextLink w k) 0 in
     let here : Link = record { level = suc l; to = next } in
-    let rest = follow-lost w c n (suc l) next (nextLink w k) (suc met) (omega arith) in
-    rw (lostDescent-cond, lostDescent-cond, brokenBy-blank)
+    let rest = follow-broken w c n (suc l) next (nextLink w k) (suc met) (omega arith) in
+    rw (brokenRemoval-cond, brokenRemoval-cond, brokenBy-blank)
     (ap (cond (eqb next 0) false) (brokenBy-next c met here (removalFrom w n (suc l) next) _ (omega arith) rest))
 
-pub terminalFrom-lost : (w : List ℕ) (k : ℕ) (here : Spot) → here .level ≤ levels → 1 ≤ capacityOf w
-    → lostDescent (terminalFrom w k here) ≡ brokenBy (capacityOf w) 1 (removalLinks w k (here .level))
+pub terminalFrom-broken : (w : List ℕ) (k : ℕ) (here : Spot) → here .level ≤ levels → 1 ≤ capacityOf w
+    → brokenRemoval (terminalFrom w k here) ≡ brokenBy (capacityOf w) 1 (removalLinks w k (here .level))
 unfolding terminalFrom removalLinks
-terminalFrom-lost w k here above some = follow-lost w (capacityOf w) (levels - here .level) (here .level) k (here .link) 1 (omega arith) some
+terminalFrom-broken w k here above some = follow-broken w (capacityOf w) (levels - here .level) (here .level) k (here .link) 1 (omega arith) some

@@ -2,7 +2,7 @@
 --   freed-*                    reads of the words once a cell is free
 --   Removed w v c t k ks       what a removal leaves: the words v, with the cells of t but k in the tree, and k before ks free
 --   remove-keeps-linked        it leaves that
--- That its walk is never lost is in FollowLaws. Assumes nothing.
+-- That its walk is never broken is in FollowLaws. Assumes nothing.
 use Prim.Native.Nat.{ℕ, suc, _<_, _≤_}
 use mathlib.Core.Path.{_≡_, refl, sym, _∙_}
 use mathlib.Core.List.{List, [], _∷_, _++_, List·Memᴰ, List·Memᴰ·head, List·Memᴰ·tail, Memᴰ·append-left, Memᴰ·append-right, Memᴰ·cast}
@@ -80,7 +80,7 @@ pub record Removed (w v : List ℕ) (c : ℕ) (t : Tree) (k : ℕ) (ks : List �
   -- the same of the words that spell them
   pub other-words : (j : ℕ) → List·Memᴰ j (cellsOf tree) → SameGrantWords w v j
 
--- the cell k, of the sons l and r, at its place in the tree
+-- the cell k, of the children l and r, at its place in the tree
 module _ {w : List ℕ} {c : ℕ} {t : Tree} {ks : List ℕ} {n at k : ℕ} {l r : Tree} (h : Linked w c t ks) (p : Part (suc levels) rootPlace t (suc n) at (node k l r)) where
   part-cell : (j : ℕ) → List·Memᴰ j (cellsOf (node k l r)) → List·Memᴰ j (cellsOf t)
   part-cell j m = perm-mem (part-outside p) (Memᴰ·append-left (outside p) m)

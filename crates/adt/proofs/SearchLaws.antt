@@ -9,8 +9,8 @@ use mathlib.Core.List.{List, [], _∷_, _++_, map, map-append, append-assoc, app
 use native.Mathlib.Omega.{arith}
 use lib.ListN.{getD}
 use borrow.Author.Tests.{lt-ltb, le-leb, eq-eqb, ne-eqb}
-use Rattle.lists.specs.Tests.{keep}
-use Rattle.lists.proofs.TestLaws.{keep-append, keep-none, keep-map, keep-mem}
+use Rattle.lists.specs.Tests.{filter}
+use Rattle.lists.proofs.TestLaws.{filter-append, filter-none, filter-map, filter-mem}
 use Rattle.lists.proofs.DistinctLaws.{Distinct}
 use Rattle.geometry.specs.declared.Side.the-variants.{Left, Right}
 use Rattle.geometry.specs.Axis.{axisOf}
@@ -42,7 +42,7 @@ isIn w q p = inside q (pointAt w (p .cell))
 
 -- the hits of a tree, each with its spot
 abbrev hitsAt : List ℕ → Region → ℕ → ℕ → Tree → List Placed
-hitsAt w q n at t = keep (isIn w q) (placedIn n at t)
+hitsAt w q n at t = filter (isIn w q) (placedIn n at t)
 
 -- a walk through the tree t, from one that met so many cells and found these, ends as s: it found t's hits besides
 record Through (w : List ℕ) (q : Region) (n at : ℕ) (t : Tree) (met : ℕ) (found : List Placed) (s : Search) : Type 0 where
@@ -53,8 +53,8 @@ record Through (w : List ℕ) (q : Region) (n at : ℕ) (t : Tree) (met : ℕ) (
 module _ (w : List ℕ) (c : ℕ) (q : Region) where
   -- the cell is met, and found if it is a hit
   meet-found : (here : Spot) (k met : ℕ) (found : List Placed) → met < c
-      → meet w c q here k (walked met found) ≡ walked (suc met) (found ++ keep (isIn w q) (record { cell = k; spot = here } ∷ []))
-  unfolding meet keep
+      → meet w c q here k (walked met found) ≡ walked (suc met) (found ++ filter (isIn w q) (record { cell = k; spot = here } ∷ []))
+  unfolding meet filter
   meet-found here k met found lt = rw (lt-ltb met c lt) (go (inside q (pointAt w k)))
     where
       new : Placed
@@ -90,20 +90,20 @@ module _ (w : List ℕ) (c : ℕ) (q : Region) where
 
   -- none of a tree's cells is a hit where its region is apart from the range
   apart-none : {n k : ℕ} {g : Region} {t : Tree} (at : ℕ) → Shape g → Spells w c n g k t → meets g q ≡ false → hitsAt w q n at t ≡ []
-  apart-none {n} {g = g} {t = t} at v s e = keep-none (isIn w q) (placedIn n at t) (λ p m. go p (cells-inside v s (p .cell) (hangs-cell (placed-hangs n at t p m))) (isIn w q p) refl)
+  apart-none {n} {g = g} {t = t} at v s e = filter-none (isIn w q) (placedIn n at t) (λ p m. go p (cells-inside v s (p .cell) (hangs-cell (placed-hangs n at t p m))) (isIn w q p) refl)
     where
       go : (p : Placed) → inside g (pointAt w (p .cell)) ≡ true → (b : Bool) → isIn w q p ≡ b → b ≡ false
       go p i false j = refl
       go p i true j = absurd (true≢false (sym (common-meets g q (pointAt w (p .cell)) i j) ∙ e))
 
-  -- a cell and its two sons, where the walks through the sons are known
+  -- a cell and its two children, where the walks through the children are known
   module _ (n at k : ℕ) (g : Region) (l r : Tree) (met : ℕ) (found : List Placed) (is : getD w at 0 ≡ k) (v : Shape g) (pos : 0 < k) (le : k ≤ c)
       (s : Spells w c (suc n) g k (node k l r)) (lt : met < c) where
     abbrev here : Placed
     here = record { cell = k; spot = record { level = levels - n; link = at } }
 
     abbrev first : List Placed
-    first = found ++ keep (isIn w q) (here ∷ [])
+    first = found ++ filter (isIn w q) (here ∷ [])
 
     abbrev besides : List Placed
     besides = first ++ hitsAt w q n (linkPlace k Left) l
@@ -113,7 +113,7 @@ module _ (w : List ℕ) (c : ℕ) (q : Region) where
     hits-node =
         let L = placedIn n (linkPlace k Left) l in
         let R = placedIn n (linkPlace k Right) r in
-        rw (keep-append (isIn w q) (here ∷ []) (L ++ R), keep-append (isIn w q) L R) (simp append-assoc)
+        rw (filter-append (isIn w q) (here ∷ []) (L ++ R), filter-append (isIn w q) L R) (simp append-assoc)
 
     node-through : (L : Through w q n (linkPlace k Left) l (suc met) first (enter w c q n (linkPlace k Left) (half Left g (axisOf (levels - n))) (walked (suc met) first)))
         → Through w q n (linkPlace k Right) r (L .after) besides (enter w c q n (linkPlace k Right) (half Right g (axisOf (levels - n))) (walked (L .after) besides))
@@ -139,7 +139,7 @@ module _ (w : List ℕ) (c : ℕ) (q : Region) where
 
   enter-through : {n k : ℕ} {g : Region} {t : Tree} (at met : ℕ) (found : List Placed) → getD w at 0 ≡ k → Shape g → Spells w c n g k t → met + size t ≤ c
       → Through w q n at t met found (enter w c q n at g (walked met found))
-  unfolding size placedIn keep
+  unfolding size placedIn filter
   enter-through {n} {g = g} at met found is v spells-blank fits = record {
     after = met;
     few = omega arith;
@@ -156,7 +156,7 @@ module _ (w : List ℕ) (c : ℕ) (q : Region) where
 
 -- the tree's cells in the range, in the tree's order
 abbrev pub hitsIn : List ℕ → Region → Tree → List ℕ
-hitsIn w q t = keep (λ k. inside q (pointAt w k)) (cellsOf t)
+hitsIn w q t = filter (λ k. inside q (pointAt w k)) (cellsOf t)
 
 pub record Finds (w : List ℕ) (q : Region) (t : Tree) (s : Search) : Type 0 where
   pub met : ℕ
@@ -176,7 +176,7 @@ search-finds {w} {c} {t} q s d e = record {
       ap (λ (k : ℕ). enter w k q (suc levels) rootPlace rootRegion (going 0 [] nowhere)) e
       ∙ walk .ends
       ∙ ap (λ (ks : List ℕ). going (walk .after) ks (spotOf hits)) same;
-  hangs = λ k ks i. go k ks hits (λ p m. keep-mem (isIn w q) (placedIn (suc levels) rootPlace t) p m .0) (same ∙ i);
+  hangs = λ k ks i. go k ks hits (λ p m. filter-mem (isIn w q) (placedIn (suc levels) rootPlace t) p m .0) (same ∙ i);
 }
   where
     hits : List Placed
@@ -187,8 +187,8 @@ search-finds {w} {c} {t} q s d e = record {
 
     same : map (λ p. p .cell) hits ≡ hitsIn w q t
     same =
-        sym (keep-map (λ k. inside q (pointAt w k)) (λ p. p .cell) (placedIn (suc levels) rootPlace t))
-        ∙ ap (keep (λ k. inside q (pointAt w k))) (placed-cells rootPlace s)
+        sym (filter-map (λ k. inside q (pointAt w k)) (λ p. p .cell) (placedIn (suc levels) rootPlace t))
+        ∙ ap (filter (λ k. inside q (pointAt w k))) (placed-cells rootPlace s)
 
     go : (k : ℕ) (ks : List ℕ) (ps : List Placed) → ((p : Placed) → List·Memᴰ p ps → List·Memᴰ p (placedIn (suc levels) rootPlace t)) → map (λ p. p .cell) ps ≡ k ∷ ks
         → HangsAt (suc levels) rootPlace t k (spotOf ps)

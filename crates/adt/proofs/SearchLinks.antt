@@ -17,7 +17,7 @@ use native.Mathlib.Nat.{zero-add}
 use native.Mathlib.Decide.{decLe, decLt}
 use native.Mathlib.Omega.{arith}
 use borrow.Author.Tests.{lt-ltb, le-ltb, le-leb, lt-leb}
-use Rattle.lists.specs.Tests.{keep}
+use Rattle.lists.specs.Tests.{filter}
 use Rattle.geometry.specs.Levels.{levels}
 use Rattle.geometry.specs.Region.{Region, rootRegion}
 use Rattle.pool.specs.Layout.{rootPlace}
@@ -51,10 +51,10 @@ module _ (w : List ℕ) (c : ℕ) (q : Region) where
   -- the state after a walk that goes on through all the spots
   abbrev reached : ℕ → List ℕ → Spot → List Spot → Search
   reached met hits first spots =
-      going (met + length (linksAt w spots)) (hits ++ hitsAmong w q (linksAt w spots)) (firstSpot hits first (headOr first (keep (isHitAt w q) spots)))
+      going (met + length (linksAt w spots)) (hits ++ hitsAmong w q (linksAt w spots)) (firstSpot hits first (headOr first (filter (isHitAt w q) spots)))
 
   reached-none : (met : ℕ) (hits : List ℕ) (first : Spot) → reached met hits first [] ≡ going met hits first
-  unfolding hitsAmong keep
+  unfolding hitsAmong filter
   reached-none met hits first =
       let same : met + 0 ≡ met = omega arith in
       rw (same, append-nil, firstSpot-same)
@@ -87,11 +87,11 @@ module _ (w : List ℕ) (c : ℕ) (q : Region) where
 
     reached-hit : isHitAt w q here ≡ true
         → reached (suc met) (hits ++ (getD w (here .link) 0 ∷ [])) (firstSpot hits first here) spots ≡ reached met hits first (here ∷ spots)
-    unfolding hitsAmong keep
+    unfolding hitsAmong filter
     reached-hit e = rw (e, shift, append-assoc, firstSpot-hit)
 
     reached-miss : isHitAt w q here ≡ false → reached (suc met) hits first spots ≡ reached met hits first (here ∷ spots)
-    unfolding hitsAmong keep
+    unfolding hitsAmong filter
     reached-miss e = rw (e, shift)
 
     closed-stops : pass w c q here (going met hits first) ≡ broken → brokenBy c met (linksAt w (here ∷ spots)) ≡ true → Closed (here ∷ spots) met hits first
@@ -128,32 +128,32 @@ module _ (w : List ℕ) (c : ℕ) (q : Region) where
   passAll-closed [] met hits first few = sym (rw (brokenBy-none c met few) (reached-none met hits first))
   passAll-closed (here ∷ spots) met hits first few = closed-more here spots met hits first (passAll-closed spots (suc met))
 
-  -- from any link on, n levels left below the father: the first hit hangs where it did, else at the spot of the first link that is a hit
+  -- from any link on, n levels left below the parent: the first hit hangs where it did, else at the spot of the first link that is a hit
   pub enter-closed : (n l at : ℕ) (g : Region) (met : ℕ) (hits : List ℕ) (first : Spot) → l + n ≡ suc levels → met ≤ c
       → let links = searchFrom w q n l at g in
-      let spot = firstSpot hits first (headOr first (keep (isHitAt w q) (spotsFrom w q n l at g))) in
+      let spot = firstSpot hits first (headOr first (filter (isHitAt w q) (spotsFrom w q n l at g))) in
       enter w c q n at g (going met hits first)
       ≡ cond (brokenBy c met links) broken (going (met + length links) (hits ++ hitsAmong w q links) spot)
   enter-closed n l at g met hits first depth few =
       rw (searchFrom-spots w q n l at g)
       (enter-passes w c q n l at g (going met hits first) depth ∙ passAll-closed (spotsFrom w q n l at g) met hits first few)
 
-keep-map : {A B : Type 0} (f : A → B) (t : B → Bool) (xs : List A) → keep t (map f xs) ≡ map f (keep (λ x. t (f x)) xs)
-unfolding keep
-keep-map f t [] = refl
-keep-map f t (x ∷ xs) = go (t (f x)) (keep-map f t xs)
+filter-map : {A B : Type 0} (f : A → B) (t : B → Bool) (xs : List A) → filter t (map f xs) ≡ map f (filter (λ x. t (f x)) xs)
+unfolding filter
+filter-map f t [] = refl
+filter-map f t (x ∷ xs) = go (t (f x)) (filter-map f t xs)
   where
-    go : (b : Bool) → keep t (map f xs) ≡ map f (keep (λ y. t (f y)) xs)
-        → cond b (f x ∷ keep t (map f xs)) (keep t (map f xs)) ≡ map f (cond b (x ∷ keep (λ y. t (f y)) xs) (keep (λ y. t (f y)) xs))
+    go : (b : Bool) → filter t (map f xs) ≡ map f (filter (λ y. t (f y)) xs)
+        → cond b (f x ∷ filter t (map f xs)) (filter t (map f xs)) ≡ map f (cond b (x ∷ filter (λ y. t (f y)) xs) (filter (λ y. t (f y)) xs))
     go true e = ap (_∷_ (f x)) e
     go false e = e
 
-keep-some : {A : Type 0} (t : A → Bool) (xs : List A) (y : A) (ys : List A) → keep t xs ≡ y ∷ ys → 1 ≤ length xs
-unfolding keep
-keep-some t [] y ys e = absurd (nil≢cons e)
-keep-some t (x ∷ xs) y ys e = omega arith
+filter-some : {A : Type 0} (t : A → Bool) (xs : List A) (y : A) (ys : List A) → filter t xs ≡ y ∷ ys → 1 ≤ length xs
+unfolding filter
+filter-some t [] y ys e = absurd (nil≢cons e)
+filter-some t (x ∷ xs) y ys e = omega arith
 
-hitsAmong-first : (w : List ℕ) (q : Region) (links : List Link) (f : Link) (fs : List Link) → keep (isHit w q) links ≡ f ∷ fs
+hitsAmong-first : (w : List ℕ) (q : Region) (links : List Link) (f : Link) (fs : List Link) → filter (isHit w q) links ≡ f ∷ fs
     → getD (hitsAmong w q links) 0 0 ≡ f .to
 unfolding hitsAmong
 hitsAmong-first w q links f fs kept = rw kept
@@ -170,7 +170,7 @@ pub record Searched (w : List ℕ) (q : Region) (met : ℕ) (hits : List ℕ) (f
   pub whole : brokenBy (capacityOf w) 0 (searchLinks w q) ≡ false
   pub count : met ≡ length (searchLinks w q)
   pub found : hits ≡ hitsAmong w q (searchLinks w q)
-  pub first-hit : (f : Link) (fs : List Link) → keep (isHit w q) (searchLinks w q) ≡ f ∷ fs → FirstHit w hits first f
+  pub first-hit : (f : Link) (fs : List Link) → filter (isHit w q) (searchLinks w q) ≡ f ∷ fs → FirstHit w hits first f
 
 -- the whole search
 module _ (w : List ℕ) (q : Region) where
@@ -184,7 +184,7 @@ module _ (w : List ℕ) (q : Region) where
   -- the state of a search that goes to its end
   abbrev wholeSearch : Search
   wholeSearch =
-      going (length (searchLinks w q)) (hitsAmong w q (searchLinks w q)) (headOr nowhere (keep (isHitAt w q) searchSpots))
+      going (length (searchLinks w q)) (hitsAmong w q (searchLinks w q)) (headOr nowhere (filter (isHitAt w q) searchSpots))
 
   search-closed : search w q ≡ cond (brokenBy (capacityOf w) 0 (searchLinks w q)) broken wholeSearch
   unfolding search searchLinks
@@ -218,13 +218,13 @@ module _ (w : List ℕ) (q : Region) where
             count = cc;
             found = found;
             first-hit = λ f fs kept.
-                let spots = keep (isHitAt w q) searchSpots in
-                let hangs = head-hit spots f fs (cc) (sym (keep-map (linkAt w) (isHit w q) searchSpots) ∙ (rw searchLinks-spots at kept)) in
+                let spots = filter (isHitAt w q) searchSpots in
+                let hangs = head-hit spots f fs (cc) (sym (filter-map (linkAt w) (isHit w q) searchSpots) ∙ (rw searchLinks-spots at kept)) in
                 record {
                   level = hangs .0;
                   holds = hangs .1;
                   cell = ap (λ (hs : List ℕ). getD hs 0 0) found ∙ hitsAmong-first w q (searchLinks w q) f fs kept;
                   within = unbroken-first (capacityOf w) 0 (searchLinks w q) whole (isHit w q) f fs kept;
-                  some = omega (arith, keep-some (isHit w q) (searchLinks w q) f fs kept, unbroken-few (capacityOf w) 0 (searchLinks w q) whole);
+                  some = omega (arith, filter-some (isHit w q) (searchLinks w q) f fs kept, unbroken-few (capacityOf w) 0 (searchLinks w q) whole);
                 };
           }

@@ -86,28 +86,28 @@ module _ (w : List ℕ) (c : ℕ) (q : Region) where
   unfolding pass
   pass-above here s above = rw (le-leb (here .level) levels above, and-true)
 
-  -- a cell and its two sons, where the sons' walks are known
-  visit-passes : (son : ℕ → Region → Search → Search) (here : Spot) (g : Region) (met : ℕ) (hits : List ℕ) (first : Spot) (left right : List Spot)
+  -- a cell and its two children, where the children's walks are known
+  visit-passes : (child : ℕ → Region → Search → Search) (here : Spot) (g : Region) (met : ℕ) (hits : List ℕ) (first : Spot) (left right : List Spot)
       → let k = getD w (here .link) 0 in
       let a = axisOf (here .level) in
       let s = going met hits first in
       here .level ≤ levels
-      → ((t : Search) → son (linkPlace k Left) (half Left g a) t ≡ passAll left t)
-      → ((t : Search) → son (linkPlace k Right) (half Right g a) t ≡ passAll right t)
-      → cond (leb k c) (visitBy w c q son here k g s) broken ≡ passAll (here ∷ left ++ right) s
+      → ((t : Search) → child (linkPlace k Left) (half Left g a) t ≡ passAll left t)
+      → ((t : Search) → child (linkPlace k Right) (half Right g a) t ≡ passAll right t)
+      → cond (leb k c) (visitBy w c q child here k g s) broken ≡ passAll (here ∷ left ++ right) s
   unfolding visitBy passAll
-  visit-passes son here g met hits first left right above goLeft goRight =
+  visit-passes child here g met hits first left right above goLeft goRight =
       go (leb (getD w (here .link) 0) c)
       ∙ sym (passAll-append left right (pass here (going met hits first)) ∙ rw (pass-above here (going met hits first) above))
     where
       go : (b : Bool)
           → let k = getD w (here .link) 0 in
           let s = meet w c q here k (going met hits first) in
-          cond b (visitBy w c q son here k g (going met hits first)) broken ≡ passAll right (passAll left (cond b s broken))
+          cond b (visitBy w c q child here k g (going met hits first)) broken ≡ passAll right (passAll left (cond b s broken))
       go true = goRight _ ∙ rw goLeft
       go false = sym (rw (passAll-broken left, passAll-broken right))
 
-  -- n levels are left below the father, so the link leads to the level l, counted from 0 at the root
+  -- n levels are left below the parent, so the link leads to the level l, counted from 0 at the root
   pub enter-passes : (n l at : ℕ) (g : Region) (s : Search) → l + n ≡ suc levels → enter w c q n at g s ≡ passAll (spotsFrom w q n l at g) s
   unfolding enter spotsFrom passAll
   enter-passes zero l at g broken depth = sym (passAll-broken (spotsFrom w q zero l at g))

@@ -15,13 +15,13 @@ use Rattle.pool.specs.Layout.{rootPlace}
 use Rattle.pool.specs.Capacity.{capacityOf}
 use Rattle.pool.proofs.CapacityLaws.{capacityOf-poolLength}
 use Rattle.adt.specs.Search.{Spot, nowhere, Search, broken, going, visitBy, enter, search}
-use Rattle.adt.specs.SearchMemory.{searchIn, Counted, Fresh, Stands}
+use Rattle.adt.specs.SearchMemory.{searchIn, Counted, Fresh, Encodes}
 use Rattle.adt.proofs.EnterSteps.{enter-blank, enter-apart, enter-above, enter-visits}
 
 module _ {w : List ℕ} {c : ℕ} {h t : List ℕ} (q : Region) (fresh : Fresh w c h t) where
   pub fresh-counted : Counted c h t
   fresh-counted =
-      subst (Counted c h) (sym (fresh .unused)) (record { hit-room = fresh .hit-room; tally-room = refl; found-met = omega arith; met-cells = omega arith })
+      subst (Counted c h) (sym (fresh .unused)) (record { hit-room = fresh .hit-room; counters-room = refl; found-met = omega arith; met-cells = omega arith })
 
   pub fresh-state : searchIn true h t ≡ going 0 [] nowhere
   fresh-state = rw (fresh .unused)
@@ -31,20 +31,20 @@ module _ {w : List ℕ} {c : ℕ} {h t : List ℕ} (q : Region) (fresh : Fresh w
   search-enters = rw (capacityOf-poolLength w c (fresh .long))
 
   module _ (k : ℕ) (e : k ≡ getD w rootPlace 0) where
-    pub search-blank : k ≡ 0 → Stands c true h t (search w q)
+    pub search-blank : k ≡ 0 → Encodes c true h t (search w q)
     search-blank z = record { counted = fresh-counted; state = fresh-state ∙ enter-blank w c q (suc levels) rootPlace k rootRegion e 0 [] nowhere z ∙ sym search-enters }
 
     module _ (nz : ¬ (k ≡ 0)) where
       deep : ¬ (suc levels ≡ 0)
       deep z = omega arith
 
-      pub search-apart : meets rootRegion q ≡ false → Stands c true h t (search w q)
+      pub search-apart : meets rootRegion q ≡ false → Encodes c true h t (search w q)
       search-apart m = record {
         counted = fresh-counted;
         state = fresh-state ∙ enter-apart w c q (suc levels) rootPlace k rootRegion e 0 [] nowhere nz deep m ∙ sym search-enters;
       }
 
-      pub search-above : meets rootRegion q ≡ true → c < k → Stands c false h t (search w q)
+      pub search-above : meets rootRegion q ≡ true → c < k → Encodes c false h t (search w q)
       search-above m a = record {
         counted = fresh-counted;
         state = enter-above w c q (suc levels) rootPlace k rootRegion e 0 [] nowhere nz deep m a ∙ sym search-enters;

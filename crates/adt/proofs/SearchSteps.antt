@@ -18,7 +18,7 @@ use Rattle.geometry.specs.Point.{inside}
 use Rattle.model.specs.Limits.{maxGrants}
 use Rattle.adt.specs.Node.{pointAt}
 use Rattle.adt.specs.Search.{Spot, Search, broken, going, firstSpot, meet}
-use Rattle.adt.specs.SearchMemory.{metIn, foundIn, searchIn, Counted, Stands}
+use Rattle.adt.specs.SearchMemory.{metIn, foundIn, searchIn, Counted, Encodes}
 
 -- a fact about four numbers is one about every list of length 4
 four : (P : List ℕ → Type 0) → ((a b d e : ℕ) → P (a ∷ b ∷ d ∷ e ∷ [])) → (t : List ℕ) → length t ≡ 4 → P t
@@ -38,41 +38,41 @@ later-spot : (f : ℕ) (h : List ℕ) (before here : Spot) → 0 < f → 0 < len
 later-spot f h before here p n = let t = take-some f h p n in rw (t .2)
 
 module _ (w : List ℕ) (c : ℕ) (q : Region) (here : Spot) (k : ℕ) (h : List ℕ) (few : c ≤ maxGrants) where
-  pub test-full : (t : List ℕ) → Counted c h t → c ≤ metIn t → Stands c false h t (meet w c q here k (searchIn true h t))
+  pub test-full : (t : List ℕ) → Counted c h t → c ≤ metIn t → Encodes c false h t (meet w c q here k (searchIn true h t))
   unfolding meet
   test-full t n full = record { counted = n; state = rw (le-ltb (metIn t) c full) }
 
   module _ (met : ℕ) (lt : met < c) where
     pub test-outside : (t : List ℕ) → Counted c h t → met ≡ metIn t → inside q (pointAt w k) ≡ false
-        → Stands c true h (set t 0 (met + 1)) (meet w c q here k (searchIn true h t))
+        → Encodes c true h (set t 0 (met + 1)) (meet w c q here k (searchIn true h t))
     unfolding meet
-    test-outside t n e out = four P go t (n .tally-room) n e
+    test-outside t n e out = four P go t (n .counters-room) n e
       where
         P : List ℕ → Type 0
-        P t = Counted c h t → met ≡ metIn t → Stands c true h (set t 0 (met + 1)) (meet w c q here k (searchIn true h t))
+        P t = Counted c h t → met ≡ metIn t → Encodes c true h (set t 0 (met + 1)) (meet w c q here k (searchIn true h t))
 
         go : (a b d e : ℕ) → P (a ∷ b ∷ d ∷ e ∷ [])
         go a b d e n i = record {
-          counted = record { hit-room = n .hit-room; tally-room = refl; found-met = omega (arith, n .found-met); met-cells = omega arith };
+          counted = record { hit-room = n .hit-room; counters-room = refl; found-met = omega (arith, n .found-met); met-cells = omega arith };
           state = rw (← i, lt-ltb met c lt, out, add-one met);
         }
 
     module _ (found : ℕ) (hit : inside q (pointAt w k) ≡ true) where
       pub test-later : (t : List ℕ) → Counted c h t → met ≡ metIn t → found ≡ foundIn t → 0 < found
-          → Stands c true (set h found k) (set (set t 0 (met + 1)) 1 (found + 1)) (meet w c q here k (searchIn true h t))
+          → Encodes c true (set h found k) (set (set t 0 (met + 1)) 1 (found + 1)) (meet w c q here k (searchIn true h t))
       unfolding meet
-      test-later t n em ef pos = four P go t (n .tally-room) n em ef
+      test-later t n em ef pos = four P go t (n .counters-room) n em ef
         where
           P : List ℕ → Type 0
           P t = Counted c h t → met ≡ metIn t → found ≡ foundIn t
-              → Stands c true (set h found k) (set (set t 0 (met + 1)) 1 (found + 1)) (meet w c q here k (searchIn true h t))
+              → Encodes c true (set h found k) (set (set t 0 (met + 1)) 1 (found + 1)) (meet w c q here k (searchIn true h t))
 
           go : (a b d e : ℕ) → P (a ∷ b ∷ d ∷ e ∷ [])
           go a b d e n i j = record {
             counted =
                 record {
                   hit-room = length-set h found k ∙ n .hit-room;
-                  tally-room = refl;
+                  counters-room = refl;
                   found-met = omega (arith, n .found-met);
                   met-cells = omega arith;
                 };
@@ -81,14 +81,14 @@ module _ (w : List ℕ) (c : ℕ) (q : Region) (here : Spot) (k : ℕ) (h : List
           }
 
       pub test-first : (t : List ℕ) → Counted c h t → met ≡ metIn t → found ≡ foundIn t → found ≤ 0
-          → Stands c true (set h found k) (set (set (set (set t 0 (met + 1)) 1 (found + 1)) 2 (here .level)) 3 (here .link))
+          → Encodes c true (set h found k) (set (set (set (set t 0 (met + 1)) 1 (found + 1)) 2 (here .level)) 3 (here .link))
           (meet w c q here k (searchIn true h t))
       unfolding meet
-      test-first t n em ef z = four P go t (n .tally-room) n em ef
+      test-first t n em ef z = four P go t (n .counters-room) n em ef
         where
           P : List ℕ → Type 0
           P t = Counted c h t → met ≡ metIn t → found ≡ foundIn t
-              → Stands c true (set h found k) (set (set (set (set t 0 (met + 1)) 1 (found + 1)) 2 (here .level)) 3 (here .link))
+              → Encodes c true (set h found k) (set (set (set (set t 0 (met + 1)) 1 (found + 1)) 2 (here .level)) 3 (here .link))
               (meet w c q here k (searchIn true h t))
 
           go : (a b d e : ℕ) → P (a ∷ b ∷ d ∷ e ∷ [])
@@ -96,7 +96,7 @@ module _ (w : List ℕ) (c : ℕ) (q : Region) (here : Spot) (k : ℕ) (h : List
             counted =
                 record {
                   hit-room = length-set h found k ∙ n .hit-room;
-                  tally-room = refl;
+                  counters-room = refl;
                   found-met = omega (arith, n .found-met);
                   met-cells = omega arith;
                 };

@@ -1,6 +1,6 @@
 -- The tree that the words of a pool spell. No contract and no claim names it: it carries the laws between words and model.
 --   Tree, cellsOf t, size t      a tree of cell numbers; its cells, each before those below it, left before right; how many
---   Spells w c n g k t           with n levels left below the father, the link k spells the tree t, in the pool w of c cells; the point of
+--   Spells w c n g k t           with n levels left below the parent, the link k spells the tree t, in the pool w of c cells; the point of
 --                                each cell of t lies in the cell's region, that of the first one being g
 --   FreeChain w c k ks           from the link k on, the left links lead through the free cells ks, in this order
 -- Assumes nothing.

@@ -4,7 +4,7 @@
 --   cells-inside            its point lies in the region of the tree's first cell
 --   size-few                distinct cells are no more than c
 --   every-cell, no-cell     what holds of a node's cells; a blank tree has none
---   son s l r               the tree on a side: son-cells, spells-son
+--   child s l r               the tree on a side: child-cells, spells-child
 -- Assumes nothing.
 use Prim.Native.Nat.{ℕ, suc, _-_, _<_, _≤_}
 use mathlib.Core.Logic.{_⊎_, inl, inr}
@@ -47,19 +47,19 @@ unfolding cellsOf
 no-cell j m = List·Memᴰ·not-nil m
 
 -- the tree on a side
-abbrev pub son : Side → Tree → Tree → Tree
-son Left l r = l
-son Right l r = r
+abbrev pub child : Side → Tree → Tree → Tree
+child Left l r = l
+child Right l r = r
 
-pub son-cells : (s : Side) (k : ℕ) (l r : Tree) (j : ℕ) → List·Memᴰ j (cellsOf (son s l r)) → List·Memᴰ j (cellsOf (node k l r))
+pub child-cells : (s : Side) (k : ℕ) (l r : Tree) (j : ℕ) → List·Memᴰ j (cellsOf (child s l r)) → List·Memᴰ j (cellsOf (node k l r))
 unfolding cellsOf
-son-cells Left k l r j m = List·Memᴰ·tail (Memᴰ·append-left (cellsOf r) m)
-son-cells Right k l r j m = List·Memᴰ·tail (Memᴰ·append-right (cellsOf l) m)
+child-cells Left k l r j m = List·Memᴰ·tail (Memᴰ·append-left (cellsOf r) m)
+child-cells Right k l r j m = List·Memᴰ·tail (Memᴰ·append-right (cellsOf l) m)
 
-pub spells-son : {w : List ℕ} {c n j k : ℕ} {g : Region} {l r : Tree} (s : Side) → Spells w c (suc n) g j (node k l r)
-    → Spells w c n (half s g (axisOf (levels - n))) (getD w (linkPlace k s) 0) (son s l r)
-spells-son Left (spells-node pos le i x y) = x
-spells-son Right (spells-node pos le i x y) = y
+pub spells-child : {w : List ℕ} {c n j k : ℕ} {g : Region} {l r : Tree} (s : Side) → Spells w c (suc n) g j (node k l r)
+    → Spells w c n (half s g (axisOf (levels - n))) (getD w (linkPlace k s) 0) (child s l r)
+spells-child Left (spells-node pos le i x y) = x
+spells-child Right (spells-node pos le i x y) = y
 
 pub cells-upto : {w : List ℕ} {c n : ℕ} {g : Region} {k : ℕ} {t : Tree} → Spells w c n g k t → Upto c (cellsOf t)
 cells-upto spells-blank j m = absurd (no-cell j m)

@@ -1,6 +1,6 @@
 -- The words once an unwanted cell is unlinked: what then hangs at its place has the other cells of its part.
 --   Unlinked w x c n at g k js    what unlinking the cell k leaves, with x the words then: at the place `at`, where a part with the cells
---                                 js hung, a tree with the same cells but k is spelled, and all else stays
+--                                 js added, a tree with the same cells but k is spelled, and all else stays
 --   unlinked-leaf                 a terminal cell is cut off
 --   unlinked-inner                a terminal cell below it takes its place
 -- Assumes nothing.
@@ -24,11 +24,11 @@ use Rattle.pool.proofs.CellLaws.{SameGrantWords, grantAt-same}
 use Rattle.adt.specs.Node.{linkPlace}
 use Rattle.adt.specs.Remove.{replaced, unlinked}
 use Rattle.adt.proofs.Spells.{Tree, blank, node, cellsOf, Spells, spells-blank}
-use Rattle.adt.proofs.TreeLaws.{son, cells-upto, cells-inside}
-use Rattle.adt.proofs.PartLaws.{Part, part-here, part-son}
+use Rattle.adt.proofs.TreeLaws.{child, cells-upto, cells-inside}
+use Rattle.adt.proofs.PartLaws.{Part, part-here, part-child}
 use Rattle.adt.proofs.NodeLaws.{sides-apart, Away, root-away, other-away, link-away, Hook, hook-link, hook-within, hook-header, field-set-hook}
 use Rattle.adt.proofs.FrameLaws.{SameNode, spells-frame, inside-same}
-use Rattle.adt.proofs.ExchangeLaws.{other, withSon, withSon-cells, spells-withSon, exchanged, outside, exchanged-cells, part-son-link, spells-parts, part-outside, part-hook, Kept, exchanged-spells}
+use Rattle.adt.proofs.ExchangeLaws.{other, withSon, withSon-cells, spells-withSon, exchanged, outside, exchanged-cells, part-child-link, spells-parts, part-outside, part-hook, Kept, exchanged-spells}
 
 pub record Unlinked (w x : List ℕ) (c n at : ℕ) (g : Region) (k : ℕ) (js : List ℕ) : Type 0 where
   pub tree : Tree
@@ -47,7 +47,7 @@ words-set w v hook j f h = field-set-hook w j v f hook h
 header-set : {c at : ℕ} (w : List ℕ) (v : ℕ) → Hook c at → (i : ℕ) → i < headerWords → i ≢ rootPlace → getD (set w at v) i 0 ≡ getD w i 0
 header-set {at = at} w v hook i h n = getD-set-other w at i v 0 (hook-header i hook h n)
 
--- the cell k with no sons, at the place `at`
+-- the cell k with no children, at the place `at`
 pub unlinked-leaf : {w : List ℕ} {c at : ℕ} (n k : ℕ) (g : Region) → length w ≡ poolLength c → Hook c at
     → Unlinked w (set w at 0) c n at g k (cellsOf (node k blank blank))
 unfolding cellsOf
@@ -62,7 +62,7 @@ unlinked-leaf {w} {c} {at} n k g long hook = record {
   links = λ j s pos le out n. getD-set-other w at (linkPlace j s) 0 0 n;
 }
 
--- the words with the terminal cell cut from its father, and then with the links of k in it
+-- the words with the terminal cell cut from its parent, and then with the links of k in it
 abbrev cutOff : List ℕ → ℕ → List ℕ
 cutOff w leafAt = set w leafAt 0
 
@@ -125,23 +125,23 @@ module _ (w : List ℕ) (k : ℕ) {c at leaf leafAt : ℕ} (long : length w ≡ 
       ∙ getD-set-other (leftMoved w k leaf leafAt) (linkPlace leaf Right) link _ 0 (λ e. away Right (sym e))
       ∙ getD-set-other (cutOff w leafAt) (linkPlace leaf Left) link _ 0 (λ e. away Left (sym e))
 
--- the cell k with the sons l and r, and the terminal cell below its son on the side s
+-- the cell k with the children l and r, and the terminal cell below its child on the side s
 module _ {w : List ℕ} {c n at m leafAt : ℕ} {g : Region} {leaf : ℕ} (s : Side) (k : ℕ) (l r : Tree)
-    (q : Part n (linkPlace k s) (son s l r) (suc m) leafAt (node leaf blank blank))
+    (q : Part n (linkPlace k s) (child s l r) (suc m) leafAt (node leaf blank blank))
     (long : length w ≡ poolLength c) (hook : Hook c at) (here : getD w at 0 ≡ k) (shape : Shape g) (sp : Spells w c (suc n) g k (node k l r))
     (distinct : Distinct (cellsOf (node k l r))) (away : (j : ℕ) → List·Memᴰ j (cellsOf (node k l r)) → Away at j) where
   abbrev beside : List ℕ
-  beside = cellsOf (son (other s) l r)
+  beside = cellsOf (child (other s) l r)
 
   abbrev whole : Part (suc n) at (node k l r) (suc m) leafAt (node leaf blank blank)
-  whole = part-son s q
+  whole = part-child s q
 
   -- the terminal cell, and those that stay
   part-all : Perm (leaf ∷ outside q ++ (k ∷ beside)) (cellsOf (node k l r))
   unfolding cellsOf outside
   part-all = part-outside whole
 
-  -- those below the son, once the terminal cell is cut off
+  -- those below the child, once the terminal cell is cut off
   part-rest : Perm (outside q) (cellsOf (exchanged q blank))
   unfolding cellsOf
   part-rest = exchanged-cells q blank
@@ -216,13 +216,13 @@ module _ {w : List ℕ} {c n at m leafAt : ℕ} {g : Region} {leaf : ℕ} (s : S
   links-moved j z pos le out apart =
       replaced-other w k long hook leafHook (leaf-bounds .0) (leaf-bounds .1) (linkPlace j z) apart
       (other-away j leaf z pos (leaf-bounds .0) (λ e. out (Memᴰ·cast e leaf-in)))
-      ∙ getD-set-other w leafAt (linkPlace j z) 0 0 (link-away j pos upto-stays (part-son-link s k l r q) (λ i. out (stays j i)) z)
+      ∙ getD-set-other w leafAt (linkPlace j z) 0 0 (link-away j pos upto-stays (part-child-link s k l r q) (λ i. out (stays j i)) z)
 
   root-moved : rootPlace ≢ at → getD moved rootPlace 0 ≡ getD w rootPlace 0
   root-moved apart =
-      let father = part-son-link s k l r q in
+      let parent = part-child-link s k l r q in
       replaced-other w k long hook leafHook (leaf-bounds .0) (leaf-bounds .1) rootPlace apart (root-away leaf)
-      ∙ getD-set-other w leafAt rootPlace 0 0 (λ e. root-away (father .cell) (father .side) (sym (e ∙ father .is)))
+      ∙ getD-set-other w leafAt rootPlace 0 0 (λ e. root-away (parent .cell) (parent .side) (sym (e ∙ parent .is)))
 
   -- k and the cells of the tree that then hangs there
   cells-moved : Perm (k ∷ cellsOf (withSon s leaf l r (exchanged q blank))) (cellsOf (node k l r))
@@ -257,5 +257,5 @@ pub unlinked-part : {w : List ℕ} {c n at m leafAt : ℕ} {g : Region} {k leaf 
     → Unlinked w (unlinked w k at leaf leafAt) c (suc n) at g k (cellsOf (node k l r))
 unfolding unlinked
 unlinked-part {n = n} {g = g} {k = k} part-here long hook here shape sp distinct away = rw (eq-eqb k k refl) (unlinked-leaf (suc n) k g long hook)
-unlinked-part {k = k} {leaf = leaf} {l = l} {r = r} (part-son s q) long hook here shape sp distinct away =
+unlinked-part {k = k} {leaf = leaf} {l = l} {r = r} (part-child s q) long hook here shape sp distinct away =
     rw (ne-eqb leaf k (inner-other s k l r q long hook here shape sp distinct away)) (unlinked-inner s k l r q long hook here shape sp distinct away)

@@ -1,5 +1,5 @@
 -- Where the way down and the removal walk end lies in the pool.
---   way-within       the blank link's place
+--   descent-within       the blank link's place
 --   follow-within    the terminal cell, and the place of its link
 -- Assumes nothing.
 use Prim.Native.Nat.{ℕ, zero, suc, _+_, _-_, _<_, _≤_}
@@ -18,9 +18,9 @@ use Rattle.geometry.specs.Region.{Region, sideOf, half}
 use Rattle.pool.specs.Capacity.{poolLength}
 use Rattle.pool.proofs.LayoutLaws.{place-within}
 use Rattle.adt.specs.Node.{linkField, linkPlace}
-use Rattle.adt.specs.Insert.{Way, blankAt, wayDown}
+use Rattle.adt.specs.Insert.{InsertionWalk, blankAt, descendFrom}
 use Rattle.adt.specs.Insert as insert
-use Rattle.adt.specs.Remove.{Descent, terminal, nextLink, follow}
+use Rattle.adt.specs.Remove.{RemovalWalk, terminal, nextLink, follow}
 use Rattle.adt.specs.Remove as remove
 
 and-true : (a b : Bool) → (a && b) ≡ true → a ≡ true
@@ -32,21 +32,21 @@ module _ (w : List ℕ) (c : ℕ) (long : length w ≡ poolLength c) where
   link-within : (k : ℕ) (s : Side) → eqb k 0 ≡ false → leb k c ≡ true → linkPlace k s < length w
   link-within k s n le = let p = place-within c k (linkField s) (let z = eqb-false k 0 n in omega arith) (leb-true k c le) in omega arith
 
-  way-cases : (x at : ℕ) (blank go : Bool) (way : Way) → at < length w → (blank ≡ false → go ≡ true → way ≡ blankAt x → x < length w)
-      → cond blank (blankAt at) (cond go way insert.lost) ≡ blankAt x → x < length w
-  way-cases x at true go way h f e = let q : at ≡ x = cc in omega arith
-  way-cases x at false true way h f e = f refl refl e
-  way-cases x at false false way h f e = absurd (let z : _≡_ {A = ℕ} 0 1 = cc in omega arith)
+  descent-cases : (x at : ℕ) (blank go : Bool) (way : InsertionWalk) → at < length w → (blank ≡ false → go ≡ true → way ≡ blankAt x → x < length w)
+      → cond blank (blankAt at) (cond go way insert.broken) ≡ blankAt x → x < length w
+  descent-cases x at true go way h f e = let q : at ≡ x = cc in omega arith
+  descent-cases x at false true way h f e = f refl refl e
+  descent-cases x at false false way h f e = absurd (let z : _≡_ {A = ℕ} 0 1 = cc in omega arith)
 
-  pub way-within : (p : List ℕ) (n at : ℕ) (g : Region) (met x : ℕ) → at < length w → wayDown w c p n at g met ≡ blankAt x → x < length w
-  unfolding wayDown
-  way-within p zero at g met x h e = absurd (let z : _≡_ {A = ℕ} 0 1 = cc in omega arith)
-  way-within p (suc n) at g met x h e =
+  pub descent-within : (p : List ℕ) (n at : ℕ) (g : Region) (met x : ℕ) → at < length w → descendFrom w c p n at g met ≡ blankAt x → x < length w
+  unfolding descendFrom
+  descent-within p zero at g met x h e = absurd (let z : _≡_ {A = ℕ} 0 1 = cc in omega arith)
+  descent-within p (suc n) at g met x h e =
       let k = getD w at 0 in
       let a = axisOf (levels - n) in
       let s = sideOf g a (getD p a 0) in
-      way-cases x at (eqb k 0) (leb k c && ltb met c) (wayDown w c p n (linkPlace k s) (half s g a) (suc met)) h
-      (λ nz go f. way-within p n (linkPlace k s) (half s g a) (suc met) x (link-within k s nz (and-true (leb k c) (ltb met c) go)) f) e
+      descent-cases x at (eqb k 0) (leb k c && ltb met c) (descendFrom w c p n (linkPlace k s) (half s g a) (suc met)) h
+      (λ nz go f. descent-within p n (linkPlace k s) (half s g a) (suc met) x (link-within k s nz (and-true (leb k c) (ltb met c) go)) f) e
 
   -- the end of a removal walk lies in the pool
   pub record Ends (leaf cut : ℕ) : Type 0 where
@@ -61,8 +61,8 @@ module _ (w : List ℕ) (c : ℕ) (long : length w ≡ poolLength c) where
       go true = omega (arith, place-within c k (linkField Right) pos le)
       go false = omega (arith, place-within c k (linkField Left) pos le)
 
-  follow-cases : (leaf cut k at : ℕ) (blank go : Bool) (rest : Descent) → 0 < k → k ≤ c → at < length w → (blank ≡ false → go ≡ true → rest ≡ terminal leaf cut → Ends leaf cut)
-      → cond blank (terminal k at) (cond go rest remove.lost) ≡ terminal leaf cut → Ends leaf cut
+  follow-cases : (leaf cut k at : ℕ) (blank go : Bool) (rest : RemovalWalk) → 0 < k → k ≤ c → at < length w → (blank ≡ false → go ≡ true → rest ≡ terminal leaf cut → Ends leaf cut)
+      → cond blank (terminal k at) (cond go rest remove.broken) ≡ terminal leaf cut → Ends leaf cut
   follow-cases leaf cut k at true go rest pos le h f e =
       let q : k ≡ leaf = cc in
       let r : at ≡ cut = cc in
@@ -73,7 +73,7 @@ module _ (w : List ℕ) (c : ℕ) (long : length w ≡ poolLength c) where
   pub follow-within : (n k at met leaf cut : ℕ) → 0 < k → k ≤ c → at < length w → follow w c n k at met ≡ terminal leaf cut → Ends leaf cut
   unfolding follow
   follow-within zero k at met leaf cut pos le h e =
-      follow-cases leaf cut k at (eqb (getD w (nextLink w k) 0) 0) false remove.lost pos le h (λ nz go f. absurd (let z : _≡_ {A = ℕ} 0 1 = cc in omega arith)) e
+      follow-cases leaf cut k at (eqb (getD w (nextLink w k) 0) 0) false remove.broken pos le h (λ nz go f. absurd (let z : _≡_ {A = ℕ} 0 1 = cc in omega arith)) e
   follow-within (suc n) k at met leaf cut pos le h e =
       let next = getD w (nextLink w k) 0 in
       follow-cases leaf cut k at (eqb next 0) (leb next c && ltb met c) (follow w c n next (nextLink w k) (suc met)) pos le h

@@ -1,7 +1,7 @@
--- A new point goes down from the root by the half that holds it, to the first blank link; the free head's cell is hung there
+-- A new point goes down from the root by the half that holds it, to the first blank link; the free head's cell is added there
 -- (document 01, "The tree" and "The walks of a call").
---   Way                 lost at a cause of fault 9, or the place of the blank link
---   wayDown n at g m    from the link at the place `at`, to a cell of region g, m cells met so far; n counts as in Search
+--   InsertionWalk                 broken at a cause of fault 9, or the place of the blank link
+--   descendFrom n at g m    from the link at the place `at`, to a cell of region g, m cells met so far; n counts as in Search
 --   descend w p         the whole way of the point p
 --   freeHead, nextFree  the free head, and the left link of its cell
 --   freeBroken w        one of the two is above C, read as grant reads them
@@ -22,23 +22,23 @@ use Rattle.pool.specs.Capacity.{capacityOf}
 use Rattle.pool.specs.Cell.{cellOf, withCell}
 use Rattle.adt.specs.Node.{linkPlace}
 
-pub data Way : Type 0 where
-  lost : Way
-  blankAt : ℕ → Way
+pub data InsertionWalk : Type 0 where
+  broken : InsertionWalk
+  blankAt : ℕ → InsertionWalk
 
 module _ (w : List ℕ) (c : ℕ) (p : List ℕ) where
-  -- the father is at the last level: the grant would have to go below it
-  unfoldable pub wayDown : ℕ → ℕ → Region → ℕ → Way
-  wayDown zero at g met = lost
-  wayDown (suc n) at g met =
+  -- the parent is at the last level: the grant would have to go below it
+  unfoldable pub descendFrom : ℕ → ℕ → Region → ℕ → InsertionWalk
+  descendFrom zero at g met = broken
+  descendFrom (suc n) at g met =
       let k = getD w at 0 in
       let a = axisOf (levels - n) in
       let s = sideOf g a (getD p a 0) in
-      let way = wayDown n (linkPlace k s) (half s g a) (suc met) in
-      cond (eqb k 0) (blankAt at) (cond (leb k c && ltb met c) way lost)
+      let way = descendFrom n (linkPlace k s) (half s g a) (suc met) in
+      cond (eqb k 0) (blankAt at) (cond (leb k c && ltb met c) way broken)
 
-unfoldable pub descend : List ℕ → List ℕ → Way
-descend w p = wayDown w (capacityOf w) p (suc levels) rootPlace rootRegion 0
+unfoldable pub descend : List ℕ → List ℕ → InsertionWalk
+descend w p = descendFrom w (capacityOf w) p (suc levels) rootPlace rootRegion 0
 
 abbrev pub freeHead : List ℕ → ℕ
 freeHead w = getD w freePlace 0

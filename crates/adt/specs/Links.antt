@@ -4,7 +4,7 @@
 --   Link                       its value, and the level of the cell that it leads to
 --   brokenBy c met links       a walk through these links meets a cause of 9; `met` cells were met before the first of them
 --   searchLinks w q            the search's links, in its order
---   wayLinks w p               grant's way down of the point p
+--   insertionLinks w p               grant's way down of the point p
 --   removalLinks w k l         the removal walk from the cell k at level l, which is met before them
 --   isHit w q link             the link leads to a cell whose point lies in the range
 --   hitsAmong w q links        the cells of the search's links that are hits, in order
@@ -14,7 +14,7 @@ use mathlib.Core.Bool.{Bool, cond, _||_}
 use mathlib.Core.List.{List, [], _∷_, _++_, map}
 use lib.Dec.{ltb, eqb}
 use lib.ListN.{length, getD}
-use Rattle.lists.specs.Tests.{keep, any}
+use Rattle.lists.specs.Tests.{filter, any}
 use Rattle.geometry.specs.declared.Side.the-variants.{Left, Right}
 use Rattle.geometry.specs.Axis.{axisOf}
 use Rattle.geometry.specs.Levels.{levels}
@@ -42,13 +42,13 @@ module _ (w : List ℕ) where
       cond (eqb k 0) [] (cond (meets g q) onward [])
 
   -- a grant that would have to go below the last level meets that cause, whatever link stands there
-  unfoldable pub wayFrom : List ℕ → ℕ → ℕ → ℕ → Region → List Link
-  wayFrom p zero l at g = record { level = l; to = getD w at 0 } ∷ []
-  wayFrom p (suc n) l at g =
+  unfoldable pub insertionFrom : List ℕ → ℕ → ℕ → ℕ → Region → List Link
+  insertionFrom p zero l at g = record { level = l; to = getD w at 0 } ∷ []
+  insertionFrom p (suc n) l at g =
       let k = getD w at 0 in
       let a = axisOf l in
       let s = sideOf g a (getD p a 0) in
-      let onward : List Link = record { level = l; to = k } ∷ wayFrom p n (suc l) (linkPlace k s) (half s g a) in
+      let onward : List Link = record { level = l; to = k } ∷ insertionFrom p n (suc l) (linkPlace k s) (half s g a) in
       cond (eqb k 0) [] onward
 
   unfoldable pub removalFrom : ℕ → ℕ → ℕ → List Link
@@ -63,8 +63,8 @@ module _ (w : List ℕ) where
 unfoldable pub searchLinks : List ℕ → Region → List Link
 searchLinks w q = searchFrom w q (suc levels) 0 rootPlace rootRegion
 
-unfoldable pub wayLinks : List ℕ → List ℕ → List Link
-wayLinks w p = wayFrom w p (suc levels) 0 rootPlace rootRegion
+unfoldable pub insertionLinks : List ℕ → List ℕ → List Link
+insertionLinks w p = insertionFrom w p (suc levels) 0 rootPlace rootRegion
 
 unfoldable pub removalLinks : List ℕ → ℕ → ℕ → List Link
 removalLinks w k l = removalFrom w (levels - l) l k
@@ -73,4 +73,4 @@ abbrev pub isHit : List ℕ → Region → Link → Bool
 isHit w q link = inside q (pointAt w (link .to))
 
 unfoldable pub hitsAmong : List ℕ → Region → List Link → List ℕ
-hitsAmong w q links = map (λ link. link .to) (keep (isHit w q) links)
+hitsAmong w q links = map (λ link. link .to) (filter (isHit w q) links)

@@ -1,5 +1,5 @@
 -- A cell as a node of the tree: where its links lie, and its point (document 01, "The tree").
---   linkPlace k s     the place of cell k's link to the son on a side
+--   linkPlace k s     the place of cell k's link to the child on a side
 --   pointAt w k       the point of the grant in cell k
 -- Assumes nothing: these are definitions.
 use Prim.Native.Nat.{ℕ}

@@ -27,17 +27,17 @@ use Rattle.pool.specs.Cell.{grantWords}
 use Rattle.adt.specs.Node.{linkPlace}
 use lib.Seq.{slice}
 
--- the link of a cell to its son on a side; a blank link leads no further
-abbrev pub sonOf : List ℕ → ℕ → Side → ℕ
-sonOf w k s = cond (eqb k 0) 0 (getD w (linkPlace k s) 0)
+-- the link of a cell to its child on a side; a blank link leads no further
+abbrev pub childOf : List ℕ → ℕ → Side → ℕ
+childOf w k s = cond (eqb k 0) 0 (getD w (linkPlace k s) 0)
 
 unfoldable pub nodeAt : List ℕ → List Side → ℕ
 nodeAt w [] = getD w rootPlace 0
-nodeAt w (s ∷ p) = sonOf w (nodeAt w p) s
+nodeAt w (s ∷ p) = childOf w (nodeAt w p) s
 
 unfoldable pub freeAt : List ℕ → ℕ → ℕ
 freeAt w zero = getD w freePlace 0
-freeAt w (suc n) = sonOf w (freeAt w n) Left
+freeAt w (suc n) = childOf w (freeAt w n) Left
 
 pub data Path : Type 0 where
   fromRoot : List Side → Path

@@ -1,6 +1,6 @@
 -- Removal follows left, else right, from the unwanted cell until a terminal cell, which takes its place by links alone
 -- (document 01, "The tree" and "The walks of a call").
---   Descent               lost at a cause of fault 9, or the terminal cell and the place of the link it hangs on
+--   RemovalWalk               broken at a cause of fault 9, or the terminal cell and the place of the link it hangs on
 --   nextLink w k          the place of the link that the walk goes through: left where that is not blank, else right
 --   follow n k at m       from the cell k, which hangs at `at`, n levels above the last; m cells met so far, k among them
 --   terminalFrom w k s    the whole removal walk, whose first cell counted is k, at its own spot
@@ -20,25 +20,25 @@ use Rattle.pool.specs.Fresh.{freeCell}
 use Rattle.adt.specs.Node.{linkPlace}
 use Rattle.adt.specs.Search.{Spot}
 
-pub data Descent : Type 0 where
-  lost : Descent
-  terminal : ℕ → ℕ → Descent
+pub data RemovalWalk : Type 0 where
+  broken : RemovalWalk
+  terminal : ℕ → ℕ → RemovalWalk
 
 abbrev pub nextLink : List ℕ → ℕ → ℕ
 nextLink w k = cond (eqb (getD w (linkPlace k Left) 0) 0) (linkPlace k Right) (linkPlace k Left)
 
 module _ (w : List ℕ) (c : ℕ) where
-  unfoldable pub follow : ℕ → ℕ → ℕ → ℕ → Descent
-  follow zero k at met = cond (eqb (getD w (nextLink w k) 0) 0) (terminal k at) lost
+  unfoldable pub follow : ℕ → ℕ → ℕ → ℕ → RemovalWalk
+  follow zero k at met = cond (eqb (getD w (nextLink w k) 0) 0) (terminal k at) broken
   follow (suc n) k at met =
       let next = getD w (nextLink w k) 0 in
       let rest = follow n next (nextLink w k) (suc met) in
-      cond (eqb next 0) (terminal k at) (cond (leb next c && ltb met c) rest lost)
+      cond (eqb next 0) (terminal k at) (cond (leb next c && ltb met c) rest broken)
 
-unfoldable pub terminalFrom : List ℕ → ℕ → Spot → Descent
+unfoldable pub terminalFrom : List ℕ → ℕ → Spot → RemovalWalk
 terminalFrom w k here = follow w (capacityOf w) (levels - here .level) k (here .link) 1
 
--- the terminal cell is cut from its father, takes the unwanted cell's two links as they then are, then its place
+-- the terminal cell is cut from its parent, takes the unwanted cell's two links as they then are, then its place
 unfoldable pub replaced : List ℕ → ℕ → ℕ → ℕ → ℕ → List ℕ
 replaced w k at leaf leafAt =
     let cut = set w leafAt 0 in

@@ -4,7 +4,7 @@
 --   meet            the cell is met and counted, and is a hit where its point lies in the range
 --   visitBy enter   the cell is met; then the left subtree is entered, then the right
 --   enter n at g    the link at the place `at` is gone through, if it leads to a cell and that cell's region g meets the range;
---                   n is the number of levels below the father, so the root is entered with one more than there are levels
+--                   n is the number of levels below the parent, so the root is entered with one more than there are levels
 --   search w q      the whole walk, from the root
 -- Assumes nothing: these are definitions.
 use Prim.Native.Nat.{ℕ, zero, suc, _-_}

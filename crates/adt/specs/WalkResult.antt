@@ -1,6 +1,6 @@
 -- What the answers of the code's walks stand for. The contracts of the walks cite these; no claim does.
---   wayOf r        the end of a way down (Insert)
---   descentOf r    the end of a removal walk (Remove)
+--   insertionWalkOf r        the end of a way down (Insert)
+--   removalWalkOf r    the end of a removal walk (Remove)
 --   Removable w k link leaf cut    the cells and link places of a removal lie in the pool
 -- Assumes nothing: these are definitions.
 use Prim.Native.Nat.{ℕ, _<_, _≤_}
@@ -15,13 +15,13 @@ use Rattle.adt.specs.declared.remove.Terminal.the-variants as terminal
 use Rattle.adt.specs.Insert as insert
 use Rattle.adt.specs.Remove as remove
 
-abbrev pub wayOf : Slot → insert.Way
-wayOf slot.Lost = insert.lost
-wayOf (slot.At link) = insert.blankAt link
+abbrev pub insertionWalkOf : Slot → insert.InsertionWalk
+insertionWalkOf slot.Broken = insert.broken
+insertionWalkOf (slot.At link) = insert.blankAt link
 
-abbrev pub descentOf : Terminal → remove.Descent
-descentOf terminal.Lost = remove.lost
-descentOf (terminal.At cell link) = remove.terminal cell link
+abbrev pub removalWalkOf : Terminal → remove.RemovalWalk
+removalWalkOf terminal.Broken = remove.broken
+removalWalkOf (terminal.At cell link) = remove.terminal cell link
 
 -- the cell k is one of the pool's
 pub record InPool (w : List ℕ) (k : ℕ) : Type 0 where

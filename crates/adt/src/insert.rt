@@ -1,11 +1,11 @@
-// Insertion: a new point goes down from the root by the half that holds it, to the first blank link; the free head's cell is hung there.
+// Insertion: a new point goes down from the root by the half that holds it, to the first blank link; the free head's cell is added there.
 ghost use mathlib.Core.Path.{_≡_};
 ghost use Prim.Native.Nat.{_<_, _≤_};
 ghost use lib.ListN.{length};
 ghost use Rattle.model.specs.Limits.{maxGrants};
 ghost use Rattle.pool.specs.Capacity.{poolLength};
 ghost use Rattle.adt.specs.Insert.{descend, freeHead, nextFree, inserted};
-ghost use Rattle.adt.specs.WalkResult.{wayOf};
+ghost use Rattle.adt.specs.WalkResult.{insertionWalkOf};
 use crate::node::link_place;
 use geometry::axis::LEVELS;
 use geometry::axis::axis_of;
@@ -21,14 +21,14 @@ use pool::layout::wide;
 
 // Where a way down ends: at a cause of fault 9, or at the place of the blank link.
 pub enum Slot {
-    Lost,
+    Broken,
     At(usize),
 }
 
 // The way down of a point.
 pub fn find_slot(pool: &[u16], cells: usize, point: Point) -> Slot
     requires { ⌜ (cells ≤ maxGrants) × (length (now pool) ≡ poolLength cells) ⌝ }
-    ensures { λ r. ⌜ wayOf r ≡ descend (now (pool .entry)) point ⌝ }
+    ensures { λ r. ⌜ insertionWalkOf r ≡ descend (now (pool .entry)) point ⌝ }
 {
     let mut region = root_region();
     let mut link: usize = ROOT;
@@ -41,10 +41,10 @@ pub fn find_slot(pool: &[u16], cells: usize, point: Point) -> Slot
             return Slot::At(link);
         }
         if cells < k {
-            return Slot::Lost;
+            return Slot::Broken;
         }
         if cells <= met {
-            return Slot::Lost;
+            return Slot::Broken;
         }
         let axis = axis_of(LEVELS - below);
         let side = side_of(&region, axis, point[axis]);
@@ -52,7 +52,7 @@ pub fn find_slot(pool: &[u16], cells: usize, point: Point) -> Slot
         link = link_place(k, side);
         met += 1;
     }
-    Slot::Lost
+    Slot::Broken
 }
 
 // Hangs the free head's cell at the blank link with the grant in it; the free head moves on to the next free cell.

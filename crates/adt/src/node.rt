@@ -72,7 +72,7 @@ pub fn is_hit(pool: &[u16], cell: usize, range: &Region) -> bool
     true
 }
 
-// The place of a cell's link to its son on a side.
+// The place of a cell's link to its child on a side.
 pub fn link_place(cell: usize, side: Side) -> usize
     requires { ⌜ (0 < cell) × (cell ≤ maxGrants) ⌝ }
     ensures { λ r. ⌜ (r ≡ linkPlace cell side) × (r < poolLength cell) ⌝ }

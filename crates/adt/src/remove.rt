@@ -6,7 +6,7 @@ ghost use Rattle.model.specs.Limits.{maxGrants};
 ghost use Rattle.geometry.specs.Levels.{levels};
 ghost use Rattle.pool.specs.Capacity.{poolLength};
 ghost use Rattle.adt.specs.Remove.{nextLink, follow, replaced, freed, removed};
-ghost use Rattle.adt.specs.WalkResult.{descentOf, Removable};
+ghost use Rattle.adt.specs.WalkResult.{removalWalkOf, Removable};
 use pool::Field;
 use pool::cell::store_free;
 use pool::layout::FREE;
@@ -17,7 +17,7 @@ use pool::layout::wide;
 
 // Where a removal walk ends: at a cause of fault 9, or at the terminal cell and the place of the link it hangs on.
 pub enum Terminal {
-    Lost,
+    Broken,
     At { cell: usize, link: usize },
 }
 
@@ -43,7 +43,7 @@ pub fn find_terminal(
     met: usize,
 ) -> Terminal
     requires { ⌜ (cells ≤ maxGrants) × (length (now pool) ≡ poolLength cells) × (below ≤ levels) × (0 < k) × (k ≤ cells) × (met ≤ cells) ⌝ }
-    ensures { λ r. ⌜ descentOf r ≡ follow (now (pool .entry)) cells below k link met ⌝ }
+    ensures { λ r. ⌜ removalWalkOf r ≡ follow (now (pool .entry)) cells below k link met ⌝ }
 {
     let at = next_link(pool, k);
     let next = wide(pool[at]);
@@ -51,18 +51,18 @@ pub fn find_terminal(
         return Terminal::At { cell: k, link };
     }
     if below == 0 {
-        return Terminal::Lost;
+        return Terminal::Broken;
     }
     if cells < next {
-        return Terminal::Lost;
+        return Terminal::Broken;
     }
     if cells <= met {
-        return Terminal::Lost;
+        return Terminal::Broken;
     }
     find_terminal(pool, cells, below - 1, next, at, met + 1)
 }
 
-// The terminal cell is cut from its father, takes the unwanted cell's two links as they then are, then its place.
+// The terminal cell is cut from its parent, takes the unwanted cell's two links as they then are, then its place.
 fn replace(pool: &mut [u16], k: usize, link: usize, leaf: usize, cut: usize)
     requires { ⌜ Removable (now pool) k link leaf cut ⌝ }
     ensures { λ r. ⌜ now (pool .exit) ≡ replaced (now (pool .entry)) k link leaf cut ⌝ }

@@ -9,7 +9,7 @@ ghost use Rattle.geometry.specs.Levels.{levels};
 ghost use Rattle.geometry.specs.Region.{Shape, narrow, meets};
 ghost use Rattle.geometry.specs.SearchRange.{OneSided};
 ghost use Rattle.adt.specs.Search.{meet, visitBy, enter, search};
-ghost use Rattle.adt.specs.SearchMemory.{searchIn, Fresh, Ready, Stands};
+ghost use Rattle.adt.specs.SearchMemory.{searchIn, Fresh, Ready, Encodes};
 use crate::node::is_hit;
 use geometry::axis::LEVELS;
 use geometry::axis::NUMBER;
@@ -31,9 +31,9 @@ use pool::layout::wide;
 pub type HitCells = [u16; MAX_CAPACITY];
 
 // What a search counts beside its hits.
-pub type Tally = [usize; 4];
+pub type Counters = [usize; 4];
 
-// The places of a search's tally: the cells met, the hits found, and of the first hit its level and the place of the link it hangs on.
+// The places of a search's counters: the cells met, the hits found, and of the first hit its level and the place of the link it hangs on.
 const MET: usize = 0;
 
 pub const FOUND: usize = 1;
@@ -51,32 +51,32 @@ fn test(
     link: usize,
     range: &Region,
     hits: &mut HitCells,
-    tally: &mut Tally,
+    counters: &mut Counters,
 ) -> bool
-    requires { ⌜ Ready (now pool) cells (now hits) (now tally) × (0 < k) × (k ≤ cells) × OneSided (now range) ⌝ }
-    ensures { λ r. ⌜ Stands cells r (now (hits .exit)) (now (tally .exit)) (meet (now (pool .entry)) cells (now (range .entry)) (record { level = level; link = link }) k (searchIn true (now (hits .entry)) (now (tally .entry)))) ⌝ }
+    requires { ⌜ Ready (now pool) cells (now hits) (now counters) × (0 < k) × (k ≤ cells) × OneSided (now range) ⌝ }
+    ensures { λ r. ⌜ Encodes cells r (now (hits .exit)) (now (counters .exit)) (meet (now (pool .entry)) cells (now (range .entry)) (record { level = level; link = link }) k (searchIn true (now (hits .entry)) (now (counters .entry)))) ⌝ }
 {
-    let met = tally[MET];
-    let found = tally[FOUND];
+    let met = counters[MET];
+    let found = counters[FOUND];
     if cells <= met {
         return false;
     }
-    tally[MET] = met + 1;
+    counters[MET] = met + 1;
     if !is_hit(pool, k, range) {
         return true;
     }
-    tally[FOUND] = found + 1;
+    counters[FOUND] = found + 1;
     hits[found] = k as u16;
     if 0 < found {
         return true;
     }
-    tally[LEVEL] = level;
-    tally[LINK] = link;
+    counters[LEVEL] = level;
+    counters[LINK] = link;
     true
 }
 
 // Tests the cell k, which hangs at the link's place with a number of levels below it, then enters its left and its right subtree.
-// Its region is its father's with the range low to high on the axis that the father halves.
+// Its region is its parent's with the range low to high on the axis that the parent halves.
 fn visit(
     pool: &[u16],
     cells: usize,
@@ -86,18 +86,18 @@ fn visit(
     halved: usize,
     low: u16,
     high: u16,
-    father: Region,
+    parent: Region,
     range: &Region,
     hits: &mut HitCells,
-    tally: &mut Tally,
+    counters: &mut Counters,
 ) -> bool
-    requires { ⌜ Ready (now pool) cells (now hits) (now tally) × (below ≤ levels) × (0 < k) × (k ≤ cells) × OneSided (now range) × Shape father × (halved < axes) × (axisAfter halved ≡ axisOf (levels - below)) × (meets (narrow father halved low high) (now range) ≡ true) ⌝ }
-    ensures { λ r. ⌜ Stands cells r (now (hits .exit)) (now (tally .exit)) (visitBy (now (pool .entry)) cells (now (range .entry)) (enter (now (pool .entry)) cells (now (range .entry)) below) (record { level = levels - below; link = link }) k (narrow father halved low high) (searchIn true (now (hits .entry)) (now (tally .entry)))) ⌝ }
+    requires { ⌜ Ready (now pool) cells (now hits) (now counters) × (below ≤ levels) × (0 < k) × (k ≤ cells) × OneSided (now range) × Shape parent × (halved < axes) × (axisAfter halved ≡ axisOf (levels - below)) × (meets (narrow parent halved low high) (now range) ≡ true) ⌝ }
+    ensures { λ r. ⌜ Encodes cells r (now (hits .exit)) (now (counters .exit)) (visitBy (now (pool .entry)) cells (now (range .entry)) (enter (now (pool .entry)) cells (now (range .entry)) below) (record { level = levels - below; link = link }) k (narrow parent halved low high) (searchIn true (now (hits .entry)) (now (counters .entry)))) ⌝ }
 {
-    let region = narrow(father, halved, low, high);
+    let region = narrow(parent, halved, low, high);
     let level = LEVELS - below;
     let axis = axis_after(halved);
-    if !test(pool, cells, k, level, link, range, hits, tally) {
+    if !test(pool, cells, k, level, link, range, hits, counters) {
         return false;
     }
     let from = region[axis][0];
@@ -114,7 +114,7 @@ fn visit(
         region,
         range,
         hits,
-        tally,
+        counters,
     ) {
         return false;
     }
@@ -130,12 +130,12 @@ fn visit(
         region,
         range,
         hits,
-        tally,
+        counters,
     )
 }
 
-// Goes through the link at a place to a son, if it leads to a cell and the son's region meets the range. That region is the father's with
-// the range low to high on one axis, and only this axis is tested: the father's region met the range.
+// Goes through the link at a place to a child, if it leads to a cell and the child's region meets the range. That region is the parent's with
+// the range low to high on one axis, and only this axis is tested: the parent's region met the range.
 fn enter(
     pool: &[u16],
     cells: usize,
@@ -147,10 +147,10 @@ fn enter(
     region: Region,
     range: &Region,
     hits: &mut HitCells,
-    tally: &mut Tally,
+    counters: &mut Counters,
 ) -> bool
-    requires { ⌜ Ready (now pool) cells (now hits) (now tally) × (below ≤ levels) × (link < length (now pool)) × OneSided (now range) × Shape region × (axis ≡ axisOf (levels - below)) × (meets region (now range) ≡ true) ⌝ }
-    ensures { λ r. ⌜ Stands cells r (now (hits .exit)) (now (tally .exit)) (enter (now (pool .entry)) cells (now (range .entry)) below link (narrow region axis low high) (searchIn true (now (hits .entry)) (now (tally .entry)))) ⌝ }
+    requires { ⌜ Ready (now pool) cells (now hits) (now counters) × (below ≤ levels) × (link < length (now pool)) × OneSided (now range) × Shape region × (axis ≡ axisOf (levels - below)) × (meets region (now range) ≡ true) ⌝ }
+    ensures { λ r. ⌜ Encodes cells r (now (hits .exit)) (now (counters .exit)) (enter (now (pool .entry)) cells (now (range .entry)) below link (narrow region axis low high) (searchIn true (now (hits .entry)) (now (counters .entry)))) ⌝ }
 {
     let k = wide(pool[link]);
     if k == 0 {
@@ -180,21 +180,21 @@ fn enter(
         region,
         range,
         hits,
-        tally,
+        counters,
     )
 }
 
-// Searches the tree for the cells whose points lie in the range. Leaves them in `hits`, in the order of the search, and in `tally` how many
+// Searches the tree for the cells whose points lie in the range. Leaves them in `hits`, in the order of the search, and in `counters` how many
 // there are, with the first one's level and the place of its link. False where the walk met a cause of fault 9.
 pub fn search(
     pool: &[u16],
     cells: usize,
     range: &Region,
     hits: &mut HitCells,
-    tally: &mut Tally,
+    counters: &mut Counters,
 ) -> bool
-    requires { ⌜ Fresh (now pool) cells (now hits) (now tally) × OneSided (now range) ⌝ }
-    ensures { λ r. ⌜ Stands cells r (now (hits .exit)) (now (tally .exit)) (search (now (pool .entry)) (now (range .entry))) ⌝ }
+    requires { ⌜ Fresh (now pool) cells (now hits) (now counters) × OneSided (now range) ⌝ }
+    ensures { λ r. ⌜ Encodes cells r (now (hits .exit)) (now (counters .exit)) (search (now (pool .entry)) (now (range .entry))) ⌝ }
 {
     let k = wide(pool[ROOT]);
     if k == 0 {
@@ -220,6 +220,6 @@ pub fn search(
         region,
         range,
         hits,
-        tally,
+        counters,
     )
 }

@@ -1,5 +1,2 @@
 -- Laws of the C interface.
 pub mod PackLaws
-pub mod FaultLaws
-pub mod FitLaws
-pub mod ReadLaws

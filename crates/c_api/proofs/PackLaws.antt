@@ -19,8 +19,8 @@ use Rattle.model.specs.Refusal.{Step, firstFault, stepBy, refusing}
 use Rattle.grants_file.specs.Block.{blockBytes, recordsPlace}
 use Rattle.grants_file.specs.BlockRead.{readCauses, partOf}
 use Rattle.grants_file.specs.Answers.{answerBy, readAnswer}
-use Rattle.index.specs.Contract.{Leaves, Lends}
-use Rattle.index.specs.FileCalls.{blockCall}
+use Rattle.calls.specs.Contract.{Leaves, Lends}
+use Rattle.calls.specs.FileCalls.{blockCall}
 use Rattle.c_api.specs.Pack.{word, firstOf, packRefusal, pack, packPart}
 use Rattle.c_api.specs.Contract.{PacksPool, PacksLent, PacksOut}
 

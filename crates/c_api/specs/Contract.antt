@@ -2,7 +2,7 @@
 --   PacksPool word pool r          a call that may change the pool
 --   PacksLent packing word lent r  list and write: the lent list, the lent bytes
 --   PacksOut word out before r     decide: its ten words
---   grantWords values before       the ten words: the whole grant and then 0; where there is no grant, as they were
+--   decisionWords values before       the ten words: the whole grant and then 0; where there is no grant, as they were
 --   outAfter answer before         the ten words after decide's answer
 -- Memory lent with no right to change it stays by itself.
 -- Assumes nothing: these are definitions.
@@ -13,14 +13,14 @@ use Rattle.model.specs.Answer.{Answer, accepted, refused}
 use Rattle.model.specs.Refusal.{Step}
 use Rattle.c_api.specs.Pack.{pack}
 
-abbrev pub grantWords : List ℕ → List ℕ → List ℕ
-grantWords [] before = before
-grantWords (number ∷ values) before = (number ∷ values) ++ (0 ∷ [])
+abbrev pub decisionWords : List ℕ → List ℕ → List ℕ
+decisionWords [] before = before
+decisionWords (number ∷ values) before = (number ∷ values) ++ (0 ∷ [])
 
 -- opens and barred, and only these, come with a grant
 abbrev pub outAfter : Answer → List ℕ → List ℕ
 outAfter (accepted []) before = before
-outAfter (accepted (verdict ∷ values)) before = grantWords values before
+outAfter (accepted (verdict ∷ values)) before = decisionWords values before
 outAfter (refused number values) before = before
 
 pub record PacksPool (word : ℕ) (pool : List ℕ) (r : Step (List ℕ)) : Type 0 where

@@ -2,8 +2,8 @@
 // Each is safe on any memory of the lengths that it is given. A refusal leaves everything as it was.
 ghost use mathlib.Core.Path.{_≡_};
 ghost use Rattle.model.specs.Call.{request};
-ghost use Rattle.index.specs.Calls.{startCall, grantCall, revokeCall, listCall, decideCall, countCall};
-ghost use Rattle.index.specs.FileCalls.{writeCall, loadCall, matchCall, blockCall};
+ghost use Rattle.calls.specs.Calls.{startCall, grantCall, revokeCall, listCall, decideCall, countCall};
+ghost use Rattle.calls.specs.FileCalls.{writeCall, loadCall, matchCall, blockCall};
 ghost use Rattle.c_api.specs.Pack.{pack, packPair, packLength, packPart, boxOf};
 ghost use Rattle.c_api.specs.Contract.{PacksPool, PacksLent, PacksOut};
 use crate::pack::pack_counted;

@@ -15,9 +15,9 @@ use native.Mathlib.Omega.{arith}
 use borrow.Author.Tests.{leb-true, le-leb, ltb-true}
 use lib.Dec.{leb, ltb, eqb}
 use Rattle.model.specs.Values.{wordValues}
-use Rattle.slip_text.specs.Decimal.{zeroDigit}
-use Rattle.slip_text.specs.Numeral.{numeral}
-use Rattle.slip_text.proofs.NumeralLaws.{numeral-digit, numeral-more}
+use Rattle.text.specs.Decimal.{zeroDigit}
+use Rattle.text.specs.Numeral.{numeral}
+use Rattle.text.proofs.NumeralLaws.{numeral-digit, numeral-more}
 use Rattle.calendar.specs.declared.Date.{Date}
 use Rattle.calendar.specs.Calendar.{lastYear, leapYear, monthDays, isDate, nextDay, dateAfter}
 use Rattle.calendar.specs.Moment.{twoDigits}

@@ -6,8 +6,8 @@
 use Prim.Native.Nat.{ℕ, _/_, _%_}
 use Prim.Native.Char.{code}
 use mathlib.Core.List.{List, [], _∷_, _++_}
-use Rattle.slip_text.specs.Ascii.{blank}
-use Rattle.slip_text.specs.Numeral.{digit}
+use Rattle.text.specs.Ascii.{blank}
+use Rattle.text.specs.Numeral.{digit}
 use Rattle.calendar.specs.declared.Date.{Date}
 use Rattle.calendar.specs.Calendar.{dateAfter, dayOf, hourOf, minuteOf}
 

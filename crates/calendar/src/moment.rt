@@ -2,7 +2,7 @@
 ghost use Prim.Native.Nat.{_+_, _≤_};
 ghost use lib.ListN.{length};
 ghost use Rattle.model.specs.Values.{wordValues};
-ghost use Rattle.slip_text.specs.Put.{Put};
+ghost use Rattle.text.specs.Put.{Put};
 ghost use Rattle.calendar.specs.Calendar.{lastYear};
 ghost use Rattle.calendar.specs.Moment.{twoDigits, dateText, timeText, momentText, momentBytes, dateBytes, timeBytes};
 use crate::Date;
@@ -10,7 +10,7 @@ use crate::days::date_after;
 use crate::days::day_of;
 use crate::days::hour_of;
 use crate::days::minute_of;
-use slip_text::printing::put_byte;
+use text::put::put_byte;
 
 // The last two digits of a number.
 fn put_two(out: &mut [u8], at: usize, n: usize) -> usize

@@ -1,4 +1,4 @@
--- Demand 3's heart: every list of calls on a fresh index is told what the plain book tells it, and leaves words that stand for the book then.
+-- Demand 3's heart: every list of calls on a fresh index is responses what the plain book tells it, and leaves words that stand for the book then.
 --   represents-calls     of any words that stand for a book, and that book
 --   represents-files     write there gives the file of any doors and the live grants touching them
 --   memory-sized         memory for a pool, as index/proofs speak of it
@@ -17,23 +17,23 @@ use Rattle.model.specs.Answer.{accepted}
 use Rattle.model.specs.Call.{Call}
 use Rattle.model.specs.Values.{CallFits, CallsFit}
 use Rattle.model.specs.Book.{Book, emptyBook, bookStep}
-use Rattle.model.specs.Histories.{told, after}
+use Rattle.model.specs.Histories.{responses, after}
 use Rattle.model.proofs.BookLaws.{after-capacity}
 use Rattle.model.proofs.Simulation.{calls-refine}
 use Rattle.pool.proofs.CapacityLaws.{Sized}
 use Rattle.adt.specs.Reach.{Holds}
 use Rattle.grants_file.specs.File.{fileOf}
 use Rattle.grants_file.specs.FileSets.{DoorRange}
-use Rattle.index.specs.Calls.{startCall, wordsStep}
-use Rattle.index.proofs.Represents.{Represents}
-use Rattle.index.proofs.StartLaws.{start-refines}
-use Rattle.index.proofs.HoldsLaws.{represents-holds}
-use Rattle.index.proofs.WriteLaws.{represents-writes}
-use Rattle.index.proofs.CallLaws.{call-refines}
+use Rattle.calls.specs.Calls.{startCall, wordsStep}
+use Rattle.calls.proofs.Represents.{Represents}
+use Rattle.calls.proofs.StartLaws.{start-refines}
+use Rattle.calls.proofs.HoldsLaws.{represents-holds}
+use Rattle.calls.proofs.WriteLaws.{represents-writes}
+use Rattle.calls.proofs.CallLaws.{call-refines}
 use Rattle.claims.specs.Claims.{Memory, wordsAfter, liveAfter, touching, Writes}
 
 pub represents-calls : {w : List ℕ} {b : Book} → Represents w b → (calls : List Call) → CallsFit calls
-    → (told wordsStep w calls ≡ told bookStep b calls) × Represents (after wordsStep w calls) (after bookStep b calls)
+    → (responses wordsStep w calls ≡ responses bookStep b calls) × Represents (after wordsStep w calls) (after bookStep b calls)
 represents-calls {w} {b} h calls fit = calls-refine wordsStep bookStep Represents CallFits call-refines w b calls fit h
 
 pub represents-files : {w : List ℕ} {b : Book} → Represents w b → (doors : Interval) → DoorRange doors → Writes w doors (fileOf doors (touching doors (b .live)))
@@ -50,7 +50,7 @@ module _ {c : ℕ} {memory : List ℕ} (m : Memory c memory) where
   fresh = start-refines memory (memory-sized m) .1
 
   module _ (calls : List Call) (fit : CallsFit calls) where
-    pub calls-answer : told wordsStep (startCall memory .state) calls ≡ told bookStep (emptyBook c) calls
+    pub calls-answer : responses wordsStep (startCall memory .state) calls ≡ responses bookStep (emptyBook c) calls
     calls-answer = represents-calls fresh calls fit .0
 
     pub calls-represent : Represents (wordsAfter memory calls) (after bookStep (emptyBook c) calls)

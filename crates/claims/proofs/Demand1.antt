@@ -25,12 +25,12 @@ use Rattle.model.proofs.JudgedLaws.{refusing-judged, judged-same, refusing-keep
 use Rattle.geometry.specs.SearchRange.{rangeOfBox, rangeOfDoors, rangeOfNumber, rangeOfAll}
 use Rattle.grants_file.specs.File.{doorsIn}
 use Rattle.grants_file.specs.BlockRead.{readCauses}
-use Rattle.index.specs.LinkCauses.{searchMeets9, searchHits, grantMeets9, revokeMeets9}
-use Rattle.index.specs.Order.{startOrder, grantOrder, revokeOrder, listOrder, lookOrder, writeOrder, loadOrder, matchOrder}
-use Rattle.index.specs.Calls.{startCall, grantCall, revokeCall, listCall, decideCall, countCall}
-use Rattle.index.specs.FileCalls.{writeCall, loadCall, firstDifference, matchCall, blockCall}
-use Rattle.index.proofs.LinkCauseLaws.{isBroken-links}
-use Rattle.index.proofs.OrderLaws.{grantOrder-links, revokeOrder-links, listOrder-links, writeOrder-links}
+use Rattle.calls.specs.LinkCauses.{searchMeets9, searchHits, grantMeets9, revokeMeets9}
+use Rattle.calls.specs.Order.{startOrder, grantOrder, revokeOrder, listOrder, lookOrder, writeOrder, loadOrder, matchOrder}
+use Rattle.calls.specs.Calls.{startCall, grantCall, revokeCall, listCall, decideCall, countCall}
+use Rattle.calls.specs.FileCalls.{writeCall, loadCall, firstDifference, matchCall, blockCall}
+use Rattle.calls.proofs.LinkCauseLaws.{isBroken-links}
+use Rattle.calls.proofs.OrderLaws.{grantOrder-links, revokeOrder-links, listOrder-links, writeOrder-links}
 use Rattle.claims.specs.Claims.{Demand1}
 use Rattle.claims.proofs.NeverBroken.{made-never-broken}
 
@@ -88,12 +88,12 @@ pub decide-judged : (w : List ℕ) (staff door quarter : ℕ)
 unfolding decideCall
 decide-judged w staff door quarter =
     judged-by _ _ w [] _
-    (ap (λ (nine : Bool). firstFault (lookOrder w nine)) (isBroken-links w (rangeOfBox (pointBox staff door quarter))))
+    (ap (λ (broken : Bool). firstFault (lookOrder w broken)) (isBroken-links w (rangeOfBox (pointBox staff door quarter))))
     (decideAmong-taken _)
 
 pub count-judged : (w : List ℕ) → Judged (lookOrder w (searchMeets9 w rangeOfAll)) w [] (countCall w)
 unfolding countCall
-count-judged w = judged-by _ _ w [] _ (ap (λ (nine : Bool). firstFault (lookOrder w nine)) (isBroken-links w rangeOfAll)) (_, refl)
+count-judged w = judged-by _ _ w [] _ (ap (λ (broken : Bool). firstFault (lookOrder w broken)) (isBroken-links w rangeOfAll)) (_, refl)
 
 pub write-judged : (w : List ℕ) (doors : Interval) (lent : List ℕ)
     → Judged (writeOrder w doors lent (searchMeets9 w (rangeOfDoors doors)) (searchHits w (rangeOfDoors doors))) w lent (writeCall w doors lent)
@@ -108,7 +108,7 @@ pub match-judged : (w f : List ℕ) → Judged (matchOrder w f (searchMeets9 w (
 unfolding matchCall
 match-judged w f =
     judged-by _ _ w [] _
-    (ap (λ (nine : Bool). firstFault (matchOrder w f nine)) (isBroken-links w (rangeOfDoors (doorsIn f))))
+    (ap (λ (broken : Bool). firstFault (matchOrder w f broken)) (isBroken-links w (rangeOfDoors (doorsIn f))))
     (firstDifference-taken _ _)
 
 pub block-judged : (f : List ℕ) (i : ℕ) → Judged (readCauses f i) f [] (blockCall f i)

@@ -16,8 +16,8 @@ use mathlib.Core.List.{List, [], _∷_, map, flatMap, List·Memᴰ, Memᴰ·map,
 use mathlib.Core.Option.{none}
 use native.Mathlib.Omega.{arith}
 use lib.ListN.{length, getD, set, take}
-use Rattle.lists.proofs.KeyLaws.{distinct-keys-keep}
-use Rattle.lists.proofs.SortLaws.{rises-keep, rises-map, rises-getD}
+use Rattle.lists.proofs.KeyLaws.{distinct-keys-filter}
+use Rattle.lists.proofs.SortLaws.{rises-filter, rises-map, rises-getD}
 use Rattle.model.specs.declared.Box.{Box}
 use Rattle.model.specs.declared.Grant.{Grant}
 use Rattle.model.specs.declared.Fault.the-variants.{BadPool, BadChecksum}
@@ -32,7 +32,7 @@ use Rattle.model.specs.Decide.{decisionOf, decideAmong}
 use Rattle.model.specs.Call.{Call}
 use Rattle.model.specs.Values.{byteValues, Below, CallsFit}
 use Rattle.model.specs.Book.{Book, overlapping, bookDecide, bookStep}
-use Rattle.model.specs.Histories.{Told, told}
+use Rattle.model.specs.Histories.{Response, responses}
 use Rattle.model.proofs.AnswerLaws.{decisionAnswer-injective}
 use Rattle.model.proofs.OverlapLaws.{overlapping-iff}
 use Rattle.model.proofs.DecideLaws.{yields-iff, decideAmong-none, Foremost, foremost-decides}
@@ -50,14 +50,14 @@ use Rattle.grants_file.proofs.VerdictLaws.{accepted-files}
 use Rattle.grants_file.proofs.OneByteLaws.{one-byte}
 use Rattle.grants_file.proofs.PartLaws.{passes-read, part-first, part-grants, part-refusal}
 use Rattle.grants_file.proofs.SetLaws.{set-touching}
-use Rattle.index.specs.Calls.{startCall, listCall, decideCall, wordsStep}
-use Rattle.index.specs.FileCalls.{grantAll, loadCall, matchCall, blockCall}
-use Rattle.index.proofs.Represents.{numberOf, Represents, live-distinct, represents-rises}
-use Rattle.index.proofs.QueryLaws.{list-refines, decide-refines}
-use Rattle.index.proofs.StartLaws.{start-sized}
-use Rattle.index.proofs.HoldsLaws.{represents-holds}
-use Rattle.index.proofs.LoadLaws.{bookOf, set-represents, load-set, load-represents, load-refuses}
-use Rattle.index.proofs.MatchLaws.{match-equal, match-differs, match-refuses}
+use Rattle.calls.specs.Calls.{startCall, listCall, decideCall, wordsStep}
+use Rattle.calls.specs.FileCalls.{grantAll, loadCall, matchCall, blockCall}
+use Rattle.calls.proofs.Represents.{numberOf, Represents, live-distinct, represents-rises}
+use Rattle.calls.proofs.QueryLaws.{list-refines, decide-refines}
+use Rattle.calls.proofs.StartLaws.{start-sized}
+use Rattle.calls.proofs.HoldsLaws.{represents-holds}
+use Rattle.calls.proofs.LoadLaws.{bookOf, set-represents, load-set, load-represents, load-refuses}
+use Rattle.calls.proofs.MatchLaws.{match-equal, match-differs, match-refuses}
 use Rattle.claims.specs.Claims.{Memory, touching, Writes, ListsOverlapping, Decides, MatchesSet, Demand2}
 use Rattle.claims.proofs.Answers.{represents-calls, represents-files, memory-sized, calls-represent}
 
@@ -66,9 +66,9 @@ module _ {w : List ℕ} {b : Book} (h : Represents w b) where
       → ListsOverlapping (b .live) q (take n (listCall w q lent .lent))
   list-overlapping q lent n taken =
       let same = list-refines h q lent .same in
-      let wrote = bookList-writes b q lent n (sym (ap (λ (t : Told). t .answer) same) ∙ taken) in
-      rw (ap (λ (t : Told). take n (t .lent)) same ∙ wrote)
-      (record { member = member; rising = rises-getD (λ n. n) 0 (rises-map numberOf (rises-keep numberOf (λ g. overlaps (g .bounds) q) (represents-rises h))) })
+      let wrote = bookList-writes b q lent n (sym (ap (λ (t : Response). t .answer) same) ∙ taken) in
+      rw (ap (λ (t : Response). take n (t .lent)) same ∙ wrote)
+      (record { member = member; rising = rises-getD (λ n. n) 0 (rises-map numberOf (rises-filter numberOf (λ g. overlaps (g .bounds) q) (represents-rises h))) })
     where
       member : (n : ℕ) → List·Memᴰ n (map numberOf (overlapping q (b .live))) ↔ ((g : Grant) × List·Memᴰ g (b .live) × (g .number ≡ n) × Overlap (g .bounds) q)
       member n = (
@@ -86,7 +86,7 @@ module _ {w : List ℕ} {b : Book} (h : Represents w b) where
     -- the answer is that of the grants that overlap the point
     decide-answer : decideCall w staff door quarter .answer ≡ decisionAnswer (decideAmong (overlapping q (b .live)))
     unfolding bookDecide
-    decide-answer = ap (λ (t : Told). t .answer) (decide-refines h staff door quarter .same)
+    decide-answer = ap (λ (t : Response). t .answer) (decide-refines h staff door quarter .same)
 
     answer-iff : (d : Decision) → (decideCall w staff door quarter .answer ≡ decisionAnswer d) ↔ (decideAmong (overlapping q (b .live)) ≡ d)
     answer-iff d = (
@@ -115,7 +115,7 @@ module _ {w : List ℕ} {b : Book} (h : Represents w b) where
     decide-foremost =
         let gs = overlapping q (b .live) in
         let none = decideAmong-none gs in
-        let apart = distinct-keys-keep numberOf (λ g. overlaps (g .bounds) q) (b .live) (live-distinct h) in (
+        let apart = distinct-keys-filter numberOf (λ g. overlaps (g .bounds) q) (b .live) (live-distinct h) in (
           (
             (λ e g m o. none .0 (answer-iff decision.None .0 e) g (overlapping-iff q (b .live) g .1 (m, o))),
             (λ f. answer-iff decision.None .1 (none .1 (λ g m. let both = overlapping-iff q (b .live) g .0 m in f g (both .0) (both .1)))),
@@ -143,7 +143,7 @@ module _ (doors : Interval) (gs : List Grant) (c : ℕ) (memory : List ℕ) (s :
 
   pub loads : let r = loadCall memory (fileOf doors gs) in
       (r .answer ≡ accepted []) × Holds (r .state) c gs
-      × ((calls : List Call) → CallsFit calls → told wordsStep (r .state) calls ≡ told bookStep (bookOf c gs) calls)
+      × ((calls : List Call) → CallsFit calls → responses wordsStep (r .state) calls ≡ responses bookStep (bookOf c gs) calls)
       × ((other : Interval) → DoorRange other → Writes (r .state) other (fileOf other (touching other gs)))
       × ((other : Interval) (hs : List Grant) → FileSet other hs → MatchesSet (r .state) gs other hs)
   loads = (

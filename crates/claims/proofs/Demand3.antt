@@ -14,10 +14,10 @@ use Rattle.model.specs.Call.{Call}
 use Rattle.model.specs.Values.{CallsFit}
 use Rattle.grants_file.specs.File.{fileOf}
 use Rattle.grants_file.specs.FileSets.{DoorRange, FileSet}
-use Rattle.index.specs.FileCalls.{loadCall}
-use Rattle.index.proofs.WriteLaws.{touching-set}
-use Rattle.index.proofs.LoadLaws.{load-set, load-represents}
-use Rattle.index.proofs.AlikeLaws.{list-alike, decide-alike}
+use Rattle.calls.specs.FileCalls.{loadCall}
+use Rattle.calls.proofs.WriteLaws.{touching-set}
+use Rattle.calls.proofs.LoadLaws.{load-set, load-represents}
+use Rattle.calls.proofs.AlikeLaws.{list-alike, decide-alike}
 use Rattle.claims.specs.Claims.{Memory, wordsAfter, liveAfter, touching, AnswerAlike, Demand3}
 use Rattle.claims.proofs.Answers.{memory-sized, started, calls-answer, calls-represent, calls-hold, calls-write}
 

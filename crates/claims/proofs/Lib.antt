@@ -8,3 +8,11 @@ pub mod Demand1
 pub mod Demand2
 pub mod Demand3
 pub mod Premises
+pub mod SlipsPrint
+pub mod MarkedSession
+pub mod Journals
+pub mod ReplayLaws
+pub mod TouchingLaws
+pub mod PackedFaultLaws
+pub mod PackedFitLaws
+pub mod PackedReadLaws

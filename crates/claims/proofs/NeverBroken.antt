@@ -11,11 +11,11 @@ use Rattle.model.specs.Call.{Call}
 use Rattle.model.specs.Values.{CallFits}
 use Rattle.model.specs.Book.{Book}
 use Rattle.model.proofs.SoundLaws.{sound-answer}
-use Rattle.index.specs.Calls.{wordsStep}
-use Rattle.index.specs.FileCalls.{writeCall, matchCall}
-use Rattle.index.proofs.Represents.{Represents}
-use Rattle.index.proofs.SoundLaws.{call-sound, write-sound, match-sound}
-use Rattle.index.proofs.LoadLaws.{accepted-represents}
+use Rattle.calls.specs.Calls.{wordsStep}
+use Rattle.calls.specs.FileCalls.{writeCall, matchCall}
+use Rattle.calls.proofs.Represents.{Represents}
+use Rattle.calls.proofs.SoundLaws.{call-sound, write-sound, match-sound}
+use Rattle.calls.proofs.LoadLaws.{accepted-represents}
 use Rattle.claims.specs.Claims.{Made, made-start, made-load, Sound}
 use Rattle.claims.proofs.Answers.{represents-calls, memory-sized, calls-represent}
 

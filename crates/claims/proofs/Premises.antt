@@ -18,7 +18,7 @@ use native.Mathlib.Omega.{arith}
 use lib.Dec.{T, ltb}
 use lib.ListN.{length, getD, replicate}
 use borrow.Author.Tests.{ltb-true}
-use Rattle.lists.specs.Tests.{keep, every, any}
+use Rattle.lists.specs.Tests.{filter, every, any}
 use Rattle.lists.specs.Sort.{insertBy, sortBy}
 use Rattle.lists.proofs.TestLaws.{T-iff, every-all}
 use Rattle.model.specs.declared.Box.{Box}
@@ -35,7 +35,7 @@ use Rattle.model.specs.Arguments.{reversedBox}
 use Rattle.model.specs.Call.{Call, grant}
 use Rattle.model.specs.Values.{wordValues, byteValues, Below, GrantFits, CallFits, CallsFit}
 use Rattle.model.specs.Book.{bookGrant, bookList, bookStep}
-use Rattle.model.specs.Histories.{Told, after}
+use Rattle.model.specs.Histories.{Response, after}
 use Rattle.model.proofs.AnswerLaws.{refusal-accepted}
 use Rattle.grants_file.specs.Block.{sealed, headerBlock}
 use Rattle.grants_file.specs.File.{fileOf, blocksIn}
@@ -44,10 +44,10 @@ use Rattle.grants_file.specs.BlockRead.{notInFile, readCauses}
 use Rattle.grants_file.specs.FileSets.{Accepted, DoorRange, ascending-none, ascending-more, FileSet, Ordering}
 use Rattle.grants_file.proofs.FileLaws.{length-fileOf, fileOf-below}
 use Rattle.grants_file.proofs.VerdictLaws.{fileOf-accepted}
-use Rattle.index.specs.Calls.{listCall, wordsStep}
-use Rattle.index.specs.FileCalls.{requestOf, loadCall, blockCall}
-use Rattle.index.proofs.QueryLaws.{list-refines}
-use Rattle.index.proofs.LoadLaws.{requestOf-fits}
+use Rattle.calls.specs.Calls.{listCall, wordsStep}
+use Rattle.calls.specs.FileCalls.{requestOf, loadCall, blockCall}
+use Rattle.calls.proofs.QueryLaws.{list-refines}
+use Rattle.calls.proofs.LoadLaws.{requestOf-fits}
 use Rattle.claims.specs.Claims.{Memory, wordsAfter, liveAfter, touching, Made, made-start, made-load}
 use Rattle.claims.proofs.Answers.{calls-represent}
 use Rattle.claims.proofs.Demand2.{loads}
@@ -60,11 +60,11 @@ box a b c d e f =
 abbrev seven : Grant
 seven = record { number = 7; rank = 10; kind = Opens; bounds = box 100 199 1 40 32 63 }
 
-abbrev nine : Grant
-nine = record { number = 9; rank = 255; kind = Bars; bounds = box 0 65535 41 50 0 9 }
+abbrev broken : Grant
+broken = record { number = 9; rank = 255; kind = Bars; bounds = box 0 65535 41 50 0 9 }
 
 abbrev grants : List Grant
-grants = seven ∷ nine ∷ []
+grants = seven ∷ broken ∷ []
 
 abbrev doors : Interval
 doors = record { from = 40; to = 50 }
@@ -74,7 +74,7 @@ abbrev memory : List ℕ
 memory = replicate 23 9
 
 abbrev calls : List Call
-calls = grant (requestOf seven) ∷ grant (requestOf nine) ∷ []
+calls = grant (requestOf seven) ∷ grant (requestOf broken) ∷ []
 
 -- what holds of each of two holds of all
 both : {A : Type 0} (P : A → Type 0) {x y : A} → P x → P y → (z : A) → List·Memᴰ z (x ∷ y ∷ []) → P z
@@ -90,10 +90,10 @@ unfolding every
 grant-met =
     both GrantFits
     (record { number = omega arith; rank = omega arith; bounds = below-test wordValues (boxValues (seven .bounds)) tt })
-    (record { number = omega arith; rank = omega arith; bounds = below-test wordValues (boxValues (nine .bounds)) tt })
+    (record { number = omega arith; rank = omega arith; bounds = below-test wordValues (boxValues (broken .bounds)) tt })
 
 pub calls-met : CallsFit calls
-calls-met = both CallFits (requestOf-fits (grant-met seven (List·Memᴰ·head refl))) (requestOf-fits (grant-met nine (List·Memᴰ·tail (List·Memᴰ·head refl))))
+calls-met = both CallFits (requestOf-fits (grant-met seven (List·Memᴰ·head refl))) (requestOf-fits (grant-met broken (List·Memᴰ·tail (List·Memᴰ·head refl))))
 
 pub memory-met : Memory 2 memory
 memory-met = record { some = omega arith; few = omega arith; long = refl }
@@ -107,7 +107,7 @@ set-met =
     record {
       doors = doors-met;
       few = omega arith;
-      ascending = ascending-more {last = 0} {g = seven} (omega arith) (ascending-more {last = 7} {g = nine} (omega arith) ascending-none);
+      ascending = ascending-more {last = 0} {g = seven} (omega arith) (ascending-more {last = 7} {g = broken} (omega arith) ascending-none);
       each = λ g m.
           record {
             fits = grant-met g m;
@@ -116,7 +116,7 @@ set-met =
           };
     }
 
-pub order-met : Ordering grants (nine ∷ seven ∷ [])
+pub order-met : Ordering grants (broken ∷ seven ∷ [])
 unfolding sortBy insertBy
 order-met = refl
 
@@ -138,11 +138,11 @@ unfolding blockCall refusing readCauses notInFile wrongBlockCount firstFault
 refused-met e = refusal-accepted BadLength [] e
 
 pub list-met : listCall (wordsAfter memory calls) (box 0 65535 1 40 0 65535) (0 ∷ []) .answer ≡ accepted (1 ∷ [])
-unfolding after bookStep bookGrant bookList refusing firstFault insertBy keep any overlaps reversedBox
-list-met = ap (λ (t : Told). t .answer) (list-refines (calls-represent memory-met calls calls-met) (box 0 65535 1 40 0 65535) (0 ∷ []) .same)
+unfolding after bookStep bookGrant bookList refusing firstFault insertBy filter any overlaps reversedBox
+list-met = ap (λ (t : Response). t .answer) (list-refines (calls-represent memory-met calls calls-met) (box 0 65535 1 40 0 65535) (0 ∷ []) .same)
 
 pub room-met : length (touching doors (liveAfter 2 calls)) ≤ 2
-unfolding after bookStep bookGrant refusing firstFault insertBy keep any reversedBox
+unfolding after bookStep bookGrant refusing firstFault insertBy filter any reversedBox
 room-met = omega arith
 
 pub inside-met : T (holds doors 45)

@@ -6,7 +6,7 @@ use mathlib.Core.Bool.{Bool, true, false, cond}
 use mathlib.Core.List.{List, [], _∷_, _++_, map, flatMap}
 use lib.Dec.{T}
 use lib.ListN.{length, take, drop, getD, set, replicate}
-use Rattle.lists.specs.Tests.{keep, every, any, each, sameNumbers}
+use Rattle.lists.specs.Tests.{filter, every, any, each, sameNumbers}
 use Rattle.lists.specs.Ranges.{countFrom}
 use Rattle.lists.specs.Overwrite.{overwrite}
 use Rattle.lists.specs.Sort.{insertBy, sortBy}
@@ -32,21 +32,21 @@ use Rattle.pool.specs.Capacity.{capacityOf, wrongLength, wrongPool}
 use Rattle.pool.specs.Cell.{grantAt, cellOf, withCell}
 use Rattle.pool.specs.Fresh.{freeCells, freshPool}
 use Rattle.adt.specs.Search.{Search, broken, going, meet, visitBy, enter, search}
-use Rattle.adt.specs.Insert.{wayDown, descend, freeBroken, inserted}
+use Rattle.adt.specs.Insert.{descendFrom, descend, freeBroken, inserted}
 use Rattle.adt.specs.Remove.{follow, terminalFrom, replaced, unlinked, freed, removed}
-use Rattle.adt.specs.Links.{brokenBy, searchFrom, wayFrom, removalFrom, searchLinks, wayLinks, removalLinks, hitsAmong}
+use Rattle.adt.specs.Links.{brokenBy, searchFrom, insertionFrom, removalFrom, searchLinks, insertionLinks, removalLinks, hitsAmong}
 use Rattle.checksum.specs.Checksum.{base256, checksum}
 use Rattle.grants_file.specs.Record.{encodeRecord, decodeRecord, wrongRecord, wrongRecords}
 use Rattle.grants_file.specs.Block.{sealed, headerBlock, recordBlock, recordsOf, wrongChecksum, wrongStart, wrongPadding}
 use Rattle.grants_file.specs.File.{fileOf, grantsIn}
 use Rattle.grants_file.specs.Verdict.{Verdict, accepted, refused, wrongBlockCount, wrongHeader, wrongLayout, lastBefore, wrongRecordsIn, blockCauses, fileCauses, verdict}
 use Rattle.grants_file.specs.BlockRead.{notInFile, wrongCount, wrongAlone, readCauses, partOf}
-use Rattle.index.specs.Causes.{grantBroken, revokeBroken}
-use Rattle.index.specs.LinkCauses.{searchMeets9, searchHits, grantMeets9, revokeMeets9}
-use Rattle.index.specs.Order.{startOrder, grantOrder, revokeOrder, listOrder, lookOrder, writeOrder, loadOrder, matchOrder}
-use Rattle.index.specs.Calls.{startCall, grantCall, revokeCall, listCall, decideCall, countCall, wordsStep}
-use Rattle.index.specs.FileCalls.{writeCall, grantAll, loadCall, firstDifference, matchCall, blockCall}
-use Rattle.model.specs.Histories.{Told, told, after}
+use Rattle.calls.specs.Causes.{grantBroken, revokeBroken}
+use Rattle.calls.specs.LinkCauses.{searchMeets9, searchHits, grantMeets9, revokeMeets9}
+use Rattle.calls.specs.Order.{startOrder, grantOrder, revokeOrder, listOrder, lookOrder, writeOrder, loadOrder, matchOrder}
+use Rattle.calls.specs.Calls.{startCall, grantCall, revokeCall, listCall, decideCall, countCall, wordsStep}
+use Rattle.calls.specs.FileCalls.{writeCall, grantAll, loadCall, firstDifference, matchCall, blockCall}
+use Rattle.model.specs.Histories.{Response, responses, after}
 use Rattle.claims.proofs.Cases.{Case, passed, one, test}
 use Rattle.claims.proofs.Cases as say
 
@@ -62,15 +62,15 @@ abbrev three : Request
 three = record { number = 3; rank = 20; kind = 0; bounds = box 150 150 12 12 0 65535 }
 
 -- one whose staff from parts it from the others at level 0
-abbrev nine : Request
-nine = record { number = 9; rank = 10; kind = 1; bounds = box 40000 40001 41 50 0 9 }
+abbrev broken : Request
+broken = record { number = 9; rank = 10; kind = 1; bounds = box 40000 40001 41 50 0 9 }
 
 -- a history with every refusal that the book knows, and an inner cell revoked
 abbrev calls : List Call
 calls =
     grant seven
     ∷ grant three
-    ∷ grant nine
+    ∷ grant broken
     ∷ grant seven
     ∷ list (box 0 65535 0 65535 0 65535) (1 ∷ 1 ∷ [])
     ∷ list (box 150 150 1 20 40 40) (1 ∷ 1 ∷ 1 ∷ [])
@@ -96,9 +96,9 @@ rivals =
     ∷ decide 9 9 9
     ∷ []
 
-abbrev numbers : List Told → List ℕ
+abbrev numbers : List Response → List ℕ
 numbers [] = []
-numbers (t ∷ ts) = say.told (t .answer) ++ t .lent ++ numbers ts
+numbers (t ∷ ts) = say.responses (t .answer) ++ t .lent ++ numbers ts
 
 abbrev fresh : List ℕ
 fresh = startCall (replicate 33 9) .state
@@ -122,21 +122,21 @@ verdictNumbers (refused f) = faultNumber f ∷ faultValues f
 
 -- the grants that touch the doors: 7 and 9
 abbrev touchingTwo : List Grant → List Grant
-touchingTwo gs = keep (touches doors) gs
+touchingTwo gs = filter (touches doors) gs
 
 abbrev cases : List Case
 cases =
     -- (8a), (8b) and (4) of source 001: the search range's highs are the tos, its lows the froms
     record { given = test (inside (rangeOfBox (box 0 9 40 50 0 9)) (5 ∷ 1 ∷ 5 ∷ 5 ∷ 40 ∷ 5 ∷ 1 ∷ [])); wanted = one 1 }
     ∷ record { given = test (inside (rangeOfBox (box 0 9 41 50 0 9)) (5 ∷ 1 ∷ 5 ∷ 5 ∷ 40 ∷ 5 ∷ 1 ∷ [])); wanted = one 0 }
-    -- (2b): the right son's low is the middle
+    -- (2b): the right child's low is the middle
     ∷ record { given = high (half side.Left rootRegion 0) 0 ∷ low (half side.Right rootRegion 0) 0 ∷ []; wanted = 32767 ∷ 32768 ∷ [] }
     -- start, and a history on words beside the same on the book
     ∷ record { given = fresh; wanted = 3 ∷ 0 ∷ 1 ∷ (2 ∷ replicate 9 0) ++ (3 ∷ replicate 9 0) ++ replicate 10 0 }
-    ∷ record { given = numbers (told wordsStep fresh calls); wanted = numbers (told bookStep (emptyBook 3) calls) }
+    ∷ record { given = numbers (responses wordsStep fresh calls); wanted = numbers (responses bookStep (emptyBook 3) calls) }
     -- the book's answers to it, by hand: an inner cell (7) is revoked and nothing behind it is lost; at equal doors 3 outranks 7
     ∷ record {
-      given = numbers (told bookStep (emptyBook 3) calls);
+      given = numbers (responses bookStep (emptyBook 3) calls);
       wanted =
           0 ∷ 0 ∷ 0 ∷ 5
           ∷ 8 ∷ 3 ∷ 1 ∷ 1
@@ -156,8 +156,8 @@ cases =
           ∷ [];
     }
     -- at equal rank the lower number decides
-    ∷ record { given = numbers (told bookStep (emptyBook 3) rivals); wanted = 0 ∷ 0 ∷ 0 ∷ 2 ∷ 4 ∷ 10 ∷ 0 ∷ 0 ∷ 9 ∷ 0 ∷ 9 ∷ 0 ∷ 9 ∷ [] }
-    -- the words after it: 7's cell 1 had the sons 3 and 9; 3, terminal on its left, took its place; 7 came again, behind 3, in cell 1
+    ∷ record { given = numbers (responses bookStep (emptyBook 3) rivals); wanted = 0 ∷ 0 ∷ 0 ∷ 2 ∷ 4 ∷ 10 ∷ 0 ∷ 0 ∷ 9 ∷ 0 ∷ 9 ∷ 0 ∷ 9 ∷ [] }
+    -- the words after it: 7's cell 1 had the children 3 and 9; 3, terminal on its left, took its place; 7 result again, behind 3, in cell 1
     ∷ record {
       given = after wordsStep fresh calls;
       wanted =
@@ -167,9 +167,9 @@ cases =
           ++ (0 ∷ 0 ∷ 9 ∷ 21 ∷ 40000 ∷ 40001 ∷ 41 ∷ 50 ∷ 0 ∷ 9 ∷ []);
     }
     -- fault 9 on links that form a cycle
-    ∷ record { given = say.told (countCall cycle .answer); wanted = one 9 }
-    ∷ record { given = say.told (decideCall cycle 0 0 0 .answer); wanted = one 9 }
-    ∷ record { given = say.told (revokeCall cycle 5 .answer); wanted = one 9 }
+    ∷ record { given = say.responses (countCall cycle .answer); wanted = one 9 }
+    ∷ record { given = say.responses (decideCall cycle 0 0 0 .answer); wanted = one 9 }
+    ∷ record { given = say.responses (revokeCall cycle 5 .answer); wanted = one 9 }
     -- a file of two grants, byte for byte, and its verdict; its two checks were computed apart
     ∷ record {
       given = take 12 (fileOf doors two);
@@ -198,11 +198,11 @@ cases =
       given = writeCall (after wordsStep fresh calls) doors (replicate 1025 5) .lent;
       wanted = fileOf doors (touchingTwo (after bookStep (emptyBook 3) calls .live)) ++ (5 ∷ []);
     }
-    ∷ record { given = say.told (matchCall (after wordsStep fresh calls) (fileOf doors two) .answer); wanted = 0 ∷ 9 ∷ [] }
-    ∷ record { given = say.told (matchCall (loadCall (replicate 23 1) (fileOf doors two) .state) (fileOf doors two) .answer); wanted = one 0 }
-    ∷ record { given = say.told (loadCall (replicate 13 1) (fileOf doors two) .answer); wanted = one 6 }
+    ∷ record { given = say.responses (matchCall (after wordsStep fresh calls) (fileOf doors two) .answer); wanted = 0 ∷ 9 ∷ [] }
+    ∷ record { given = say.responses (matchCall (loadCall (replicate 23 1) (fileOf doors two) .state) (fileOf doors two) .answer); wanted = one 0 }
+    ∷ record { given = say.responses (loadCall (replicate 13 1) (fileOf doors two) .answer); wanted = one 6 }
     ∷ []
 
 pub tried-cases : T (passed cases)
-unfolding keep every any each sameNumbers countFrom overwrite insertBy sortBy overlaps sameGrant firstFault refusing reversedBox outranks decidingOf decideAmong bookGrant bookRevoke bookList bookDecide bookCount bookStep rootRegion half meets pointOf inside rangeOfBox rangeOfDoors rangeOfNumber place fieldOf capacityOf wrongLength wrongPool grantAt withCell freeCells freshPool meet visitBy enter search wayDown descend freeBroken inserted follow terminalFrom replaced unlinked freed removed grantBroken revokeBroken startOrder grantOrder revokeOrder listOrder lookOrder startCall grantCall revokeCall listCall decideCall countCall wordsStep told after base256 checksum encodeRecord decodeRecord wrongRecord wrongRecords sealed headerBlock recordBlock recordsOf wrongChecksum wrongStart wrongPadding fileOf grantsIn wrongBlockCount wrongHeader wrongLayout lastBefore wrongRecordsIn blockCauses fileCauses verdict notInFile wrongCount wrongAlone readCauses partOf writeOrder loadOrder matchOrder writeCall grantAll loadCall firstDifference matchCall mathlib.Core.List.flatMap
+unfolding filter every any each sameNumbers countFrom overwrite insertBy sortBy overlaps sameGrant firstFault refusing reversedBox outranks decidingOf decideAmong bookGrant bookRevoke bookList bookDecide bookCount bookStep rootRegion half meets pointOf inside rangeOfBox rangeOfDoors rangeOfNumber place fieldOf capacityOf wrongLength wrongPool grantAt withCell freeCells freshPool meet visitBy enter search descendFrom descend freeBroken inserted follow terminalFrom replaced unlinked freed removed grantBroken revokeBroken startOrder grantOrder revokeOrder listOrder lookOrder startCall grantCall revokeCall listCall decideCall countCall wordsStep responses after base256 checksum encodeRecord decodeRecord wrongRecord wrongRecords sealed headerBlock recordBlock recordsOf wrongChecksum wrongStart wrongPadding fileOf grantsIn wrongBlockCount wrongHeader wrongLayout lastBefore wrongRecordsIn blockCauses fileCauses verdict notInFile wrongCount wrongAlone readCauses partOf writeOrder loadOrder matchOrder writeCall grantAll loadCall firstDifference matchCall mathlib.Core.List.flatMap
 tried-cases = tt

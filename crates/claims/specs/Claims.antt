@@ -1,7 +1,7 @@
 -- The claims: the three demands of document 00, as types. Nothing is assumed but what each type names before its arrow.
 --   Demand1    each call is refused under its fault, and else accepted; made pools never give 9
 --   Demand2    a hit is condition (5); the accepted files; load, match, one byte changed; the parts that block read hands back
---   Demand3    every list of calls is told what the plain book tells it, on one tree, through every file
+--   Demand3    every list of calls is responses what the plain book tells it, on one tree, through every file
 -- Which field shuts out each of document 01's "Worthless versions":
 --   list always empty, decide always none    Demand2 .lists, .decisions; Demand3 .answers
 --   "no free cell" while one is free         Demand3 .answers: the book gives 6 only at C live
@@ -20,7 +20,7 @@ use mathlib.Core.Bool.{Bool, true, false, cond}
 use mathlib.Core.List.{List, [], _∷_, flatMap, List·Memᴰ}
 use lib.Dec.{T}
 use lib.ListN.{length, getD, set, take}
-use Rattle.lists.specs.Tests.{keep}
+use Rattle.lists.specs.Tests.{filter}
 use Rattle.lists.specs.Overwrite.{overwrite}
 use Rattle.model.specs.declared.Box.{Box}
 use Rattle.model.specs.declared.Grant.{Grant}
@@ -42,12 +42,12 @@ use Rattle.grants_file.specs.Record.{encodeRecord}
 use Rattle.grants_file.specs.Block.{blockBytes}
 use Rattle.grants_file.specs.File.{chunk, fileOf, blocksIn, doorsIn, grantsIn}
 use Rattle.grants_file.specs.BlockRead.{readCauses, partOf}
-use Rattle.index.specs.LinkCauses.{searchMeets9, searchHits, grantMeets9, revokeMeets9}
-use Rattle.index.specs.Order.{startOrder, grantOrder, revokeOrder, listOrder, lookOrder, writeOrder, loadOrder, matchOrder}
-use Rattle.index.specs.Calls.{startCall, grantCall, revokeCall, listCall, decideCall, countCall, wordsStep}
-use Rattle.index.specs.FileCalls.{writeCall, grantAll, loadCall, matchCall, blockCall}
+use Rattle.calls.specs.LinkCauses.{searchMeets9, searchHits, grantMeets9, revokeMeets9}
+use Rattle.calls.specs.Order.{startOrder, grantOrder, revokeOrder, listOrder, lookOrder, writeOrder, loadOrder, matchOrder}
+use Rattle.calls.specs.Calls.{startCall, grantCall, revokeCall, listCall, decideCall, countCall, wordsStep}
+use Rattle.calls.specs.FileCalls.{writeCall, grantAll, loadCall, matchCall, blockCall}
 use Rattle.model.specs.Values.{byteValues, Below, GrantFits, CallFits, CallsFit}
-use Rattle.model.specs.Histories.{toldBy, told, after}
+use Rattle.model.specs.Histories.{responseOf, responses, after}
 use Rattle.adt.specs.Reach.{Holds}
 use Rattle.grants_file.specs.FileSets.{Accepted, DoorRange, FileSet, Ordering, LeastDifference}
 use Rattle.model.specs.Judged.{Judged}
@@ -64,7 +64,7 @@ abbrev pub liveAfter : ℕ → List Call → List Grant
 liveAfter c calls = after bookStep (emptyBook c) calls .live
 
 abbrev pub touching : Interval → List Grant → List Grant
-touching doors gs = keep (touches doors) gs
+touching doors gs = filter (touches doors) gs
 
 -- write gives the bytes f for the doors, into any lent bytes that are enough, keeps those past f, and keeps the pool
 abbrev pub Writes : List ℕ → Interval → List ℕ → Type 0
@@ -75,15 +75,15 @@ Writes w doors f =
 -- asked the same, both pools answer every list and decide with doors inside the range alike, lent lists included
 pub record AnswerAlike (doors : Interval) (w v : List ℕ) : Type 0 where
   pub lists : (q : Box) (lent : List ℕ) → T (holds doors (doorsOf q .from)) → T (holds doors (doorsOf q .to))
-      → toldBy (listCall w q lent) ≡ toldBy (listCall v q lent)
+      → responseOf (listCall w q lent) ≡ responseOf (listCall v q lent)
   pub decisions : (staff door quarter : ℕ) → T (holds doors door)
-      → toldBy (decideCall w staff door quarter) ≡ toldBy (decideCall v staff door quarter)
+      → responseOf (decideCall w staff door quarter) ≡ responseOf (decideCall v staff door quarter)
 
 -- DEMAND 3, of one index and one list of calls
 pub record KeepsBook (c : ℕ) (memory : List ℕ) (calls : List Call) : Type 0 where
   pub started : startCall memory .answer ≡ accepted []
   -- every answer is that of the plain book, lent lists included
-  pub answers : told wordsStep (startCall memory .state) calls ≡ told bookStep (emptyBook c) calls
+  pub answers : responses wordsStep (startCall memory .state) calls ≡ responses bookStep (emptyBook c) calls
   -- the links reach each cell once; the reached cells carry the live grants, in their regions, none behind more than 112
   pub holds : Holds (wordsAfter memory calls) c (liveAfter c calls)
   -- the file written for any door range is that of the range and the live grants touching it
@@ -138,7 +138,7 @@ pub record Demand2 : Type 0 where
   pub loads : (doors : Interval) (gs : List Grant) (c : ℕ) (memory : List ℕ) → FileSet doors gs → Memory c memory → length gs ≤ c
       → let r = loadCall memory (fileOf doors gs) in
       (r .answer ≡ accepted []) × Holds (r .state) c gs
-      × ((calls : List Call) → CallsFit calls → told wordsStep (r .state) calls ≡ told bookStep (record { capacity = c; live = gs }) calls)
+      × ((calls : List Call) → CallsFit calls → responses wordsStep (r .state) calls ≡ responses bookStep (record { capacity = c; live = gs }) calls)
       × ((other : Interval) → DoorRange other → Writes (r .state) other (fileOf other (touching other gs)))
       × ((other : Interval) (hs : List Grant) → FileSet other hs → MatchesSet (r .state) gs other hs)
   -- match, after any calls, against the file of any doors and set

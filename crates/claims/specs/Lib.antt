@@ -1,2 +1,7 @@
 -- The claims: demands 1 to 3.
 pub mod Claims
+pub mod SlipClaims
+pub mod JournalClaims
+pub mod PanelClaims
+pub mod PackedFits
+pub mod PackedReads

@@ -3,8 +3,8 @@
 -- Assumes nothing.
 use mathlib.Core.Path.{_≡_, refl}
 use Rattle.model.specs.declared.Fault.the-variants.{Full, ListTooShort, BadLayout, BadChecksum, BadRecord, BufferTooShort}
-use Rattle.slip_text.specs.Ascii.{ascii}
-use Rattle.slip_text.specs.Numeral.{numeral, digitsBy}
+use Rattle.text.specs.Ascii.{ascii}
+use Rattle.text.specs.Numeral.{numeral, digitsBy}
 use Rattle.fault_words.specs.FaultText.{faultText}
 
 pub fault-cases : (faultText Full ≡ ascii "no cell is free: revoke a grant first, or split the bank")

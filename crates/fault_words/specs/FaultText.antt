@@ -8,9 +8,9 @@ use mathlib.Core.List.{List, _++_}
 use Rattle.model.specs.Fault.{faultNumber}
 use Rattle.model.specs.declared.Fault.{Fault}
 use Rattle.model.specs.declared.Fault.the-variants.{BadPool, Reversed, ZeroNumber, UnknownKind, AlreadyLive, Full, NotLive, ListTooShort, BrokenLinks, BadLength, BadLayout, BadChecksum, BadRecord, BufferTooShort}
-use Rattle.slip_text.specs.Ascii.{ascii}
-use Rattle.slip_text.specs.Numeral.{numeral}
-use Rattle.slip_text.specs.Text.{line}
+use Rattle.text.specs.Ascii.{ascii}
+use Rattle.text.specs.Numeral.{numeral}
+use Rattle.text.specs.Ascii.{line}
 
 -- a number of 64 bits has no more digits
 abbrev pub numeralBytes : ℕ

@@ -4,14 +4,14 @@ ghost use mathlib.Core.Path.{_≡_};
 ghost use mathlib.Core.List.{_++_};
 ghost use Prim.Native.Nat.{_+_, _≤_};
 ghost use lib.ListN.{length, take};
-ghost use Rattle.slip_text.specs.Numeral.{numeral};
-ghost use Rattle.slip_text.specs.Put.{Put, Counts};
+ghost use Rattle.text.specs.Numeral.{numeral};
+ghost use Rattle.text.specs.Put.{Put, Counts};
 ghost use Rattle.fault_words.specs.FaultText.{faultText, faultBytes, numeralBytes, refusalLine};
 use model::Fault;
-use slip_text::printing::fault_number;
-use slip_text::printing::put_byte;
-use slip_text::printing::put_number;
-use slip_text::printing::put_text;
+use model::faults::fault_number;
+use text::put::put_byte;
+use text::put::put_number;
+use text::put::put_text;
 
 // Room for the longest refusal.
 pub const REFUSAL_BYTES: usize = 160;

@@ -18,7 +18,7 @@ use Rattle.model.specs.declared.Matched.the-variants.{Equal, Differs}
 use Rattle.model.specs.Grant.{sameGrant}
 use Rattle.pool.specs.Cell.{grantAt}
 use Rattle.index.specs.Hits.{CellsAt}
-use Rattle.index.specs.FileCalls.{firstDifference}
+use Rattle.calls.specs.FileCalls.{firstDifference}
 
 module _ (w cells : List ℕ) {n : ℕ} (at : CellsAt w cells n) where
   abbrev ours : List Grant

@@ -5,3 +5,4 @@ pub mod WriteFileLaws
 pub mod WriteSteps
 pub mod DifferenceLaws
 pub mod MatchSteps
+pub mod AddedLaws

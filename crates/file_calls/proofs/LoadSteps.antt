@@ -1,5 +1,5 @@
 -- What load answers and leaves, test by test.
---   hung-more, hung-all                     one more grant of the file is hung; all are
+--   added-more, added-all                     one more grant of the file is added; all are
 --   load-bad, load-file, load-full          the refusals, in their order
 --   load-done                               start's words with the file's grants
 -- Assumes nothing.
@@ -28,24 +28,24 @@ use Rattle.grants_file.specs.Answers.{fileAnswer}
 use Rattle.grants_file.specs.FileSets.{Accepted}
 use Rattle.grants_file.proofs.FileLaws.{length-grantsIn}
 use Rattle.grants_file.proofs.GrantSteps.{answer-accepted, answer-refused}
-use Rattle.index.specs.Causes.{tooManyGrants}
-use Rattle.index.specs.Order.{loadOrder}
-use Rattle.index.specs.FileCalls.{requestOf, grantAll, loadCall}
-use Rattle.index.specs.Plans.{hung, hungAll}
-use Rattle.index.specs.Contract.{Leaves}
-use Rattle.index.proofs.HungLaws.{file-hung}
+use Rattle.calls.specs.Causes.{tooManyGrants}
+use Rattle.calls.specs.Order.{loadOrder}
+use Rattle.calls.specs.FileCalls.{requestOf, grantAll, loadCall}
+use Rattle.index.specs.Plans.{added, addedAll}
+use Rattle.calls.specs.Contract.{Leaves}
+use Rattle.file_calls.proofs.AddedLaws.{file-added}
 use Rattle.index.proofs.RefusalSteps.{refusedBy, first-holds, first-fails, none-left, leaves-as, length-refused, length-taken}
 
 -- the grants from the i-th on
 module _ (f : List ℕ) where
-  pub hung-more : (w : List ℕ) {left : List ℕ} (g : Grant) (i : ℕ) → drop i (grantsIn f) ≡ g ∷ drop (i + 1) (grantsIn f)
-      → left ≡ hung w (requestOf g) → hungAll left (drop (i + 1) (grantsIn f)) ≡ hungAll w (drop i (grantsIn f))
-  unfolding hungAll
-  hung-more w g i e s = rw (e, s)
+  pub added-more : (w : List ℕ) {left : List ℕ} (g : Grant) (i : ℕ) → drop i (grantsIn f) ≡ g ∷ drop (i + 1) (grantsIn f)
+      → left ≡ added w (requestOf g) → addedAll left (drop (i + 1) (grantsIn f)) ≡ addedAll w (drop i (grantsIn f))
+  unfolding addedAll
+  added-more w g i e s = rw (e, s)
 
-  pub hung-all : (w : List ℕ) (i : ℕ) → totalIn f ≤ i → hungAll w (drop i (grantsIn f)) ≡ w
-  unfolding hungAll
-  hung-all w i h = rw (drop-of-length-le (grantsIn f) {i = i} (omega (arith, length-grantsIn f)))
+  pub added-all : (w : List ℕ) (i : ℕ) → totalIn f ≤ i → addedAll w (drop i (grantsIn f)) ≡ w
+  unfolding addedAll
+  added-all w i h = rw (drop-of-length-le (grantsIn f) {i = i} (omega (arith, length-grantsIn f)))
 
 -- the bytes of a slice are below 256
 bytes-below : (f : List ℕ) → ((i : ℕ) → getD f i 0 < byteValues) → Below byteValues f
@@ -99,12 +99,12 @@ module _ (w f : List ℕ) where
                 ∙ row-fails w [] loaded (fileCauses f) (last-cause ∷ []) load-accepted
                 ∙ first-holds w [] loaded _ _ (lt-ltb (capacityOf w) (totalIn f) (omega (arith, cells, t, many))))
 
-            pub load-done : total ≤ c → ((i : ℕ) → getD f i 0 < byteValues) → {left : List ℕ} → left ≡ hungAll (freshPool c) (grantsIn f) → Leaves (accepted []) left (loadCall w f)
+            pub load-done : total ≤ c → ((i : ℕ) → getD f i 0 < byteValues) → {left : List ℕ} → left ≡ addedAll (freshPool c) (grantsIn f) → Leaves (accepted []) left (loadCall w f)
             unfolding loadCall loadOrder
             load-done few bytes made =
                 let cells = length-taken w e n .capacity in
                 let taken = length-taken w e n in
-                let same = file-hung f (bytes-below f bytes) load-accepted c (taken .some) (taken .few) (omega (arith, t, few)) in
+                let same = file-added f (bytes-below f bytes) load-accepted c (taken .some) (taken .few) (omega (arith, t, few)) in
                 rw (made, ← same, ← cells)
                 (leaves-as
                 (first-fails w [] loaded _ _ right

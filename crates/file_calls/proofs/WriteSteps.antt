@@ -26,13 +26,13 @@ use Rattle.grants_file.specs.Block.{blockBytes}
 use Rattle.grants_file.specs.File.{blocksFor, fileOf}
 use Rattle.index.specs.declared.hits.Hits.{Hits}
 use Rattle.index.specs.declared.hits.Hits.the-variants.{Broken, Found}
-use Rattle.index.specs.Walks.{doorSearch, hitsOf, isBroken}
-use Rattle.index.specs.Causes.{lengthNeeded}
+use Rattle.calls.specs.Walks.{doorSearch, hitsOf, isBroken}
+use Rattle.calls.specs.Causes.{lengthNeeded}
 use Rattle.index.specs.Hits.{HitsAt, HitsFound}
-use Rattle.index.specs.Order.{writeOrder}
-use Rattle.index.specs.FileCalls.{touchingGrants, writeCall}
+use Rattle.calls.specs.Order.{writeOrder}
+use Rattle.calls.specs.FileCalls.{touchingGrants, writeCall}
 use Rattle.file_calls.specs.WriteKeys.{numberIn}
-use Rattle.index.specs.Contract.{Lends}
+use Rattle.calls.specs.Contract.{Lends}
 use Rattle.index.proofs.HitsLaws.{broken-search, found-hits, length-hits}
 use Rattle.file_calls.proofs.SortedCellLaws.{touching-sorted}
 use Rattle.index.proofs.RefusalSteps.{refusedBy, first-holds, first-fails, none-left, lends-as, pool-refused, pool-taken}

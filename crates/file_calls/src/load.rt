@@ -5,9 +5,9 @@ ghost use Rattle.model.specs.Answer.{outcomeAnswer};
 ghost use Rattle.pool.specs.Capacity.{Sized};
 ghost use Rattle.grants_file.specs.File.{totalIn, grantsIn};
 ghost use Rattle.grants_file.specs.FileSets.{Accepted};
-ghost use Rattle.index.specs.FileCalls.{loadCall};
-ghost use Rattle.index.specs.Plans.{hungAll};
-ghost use Rattle.index.specs.Contract.{Leaves};
+ghost use Rattle.calls.specs.FileCalls.{loadCall};
+ghost use Rattle.index.specs.Plans.{addedAll};
+ghost use Rattle.calls.specs.Contract.{Leaves};
 use grants_file::grants::grant_in;
 use grants_file::grants::total_in;
 use grants_file::verdict::judge;
@@ -20,7 +20,7 @@ use pool::layout::length_capacity;
 // Hangs the grants of an accepted file, one after the other: their numbers rise, so each is new, and none is searched for.
 fn add_all(pool: &mut [u16], file: &[u8], cells: usize, total: usize)
     requires { ⌜ Sized (now pool) cells × Accepted (now file) × (total ≡ totalIn (now file)) ⌝ }
-    ensures { λ r. ⌜ now (pool .exit) ≡ hungAll (now (pool .entry)) (grantsIn (now (file .entry))) ⌝ }
+    ensures { λ r. ⌜ now (pool .exit) ≡ addedAll (now (pool .entry)) (grantsIn (now (file .entry))) ⌝ }
 {
     let mut i: usize = 0;
     while i < total {

@@ -9,7 +9,7 @@ ghost use Rattle.pool.specs.Cell.{grantAt};
 ghost use Rattle.grants_file.specs.File.{grantsIn};
 ghost use Rattle.grants_file.specs.FileSets.{Accepted};
 ghost use Rattle.index.specs.Hits.{CellsAt};
-ghost use Rattle.index.specs.FileCalls.{firstDifference, matchCall};
+ghost use Rattle.calls.specs.FileCalls.{firstDifference, matchCall};
 use crate::sorted_cells::sort_cells;
 use adt::search::HitCells;
 use geometry::range::range_of_doors;

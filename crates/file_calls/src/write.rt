@@ -1,8 +1,8 @@
 // write: the file of the live grants that touch the doors, from the lent bytes' start (document 01, "The grants file").
 // Refuses by 1, 2, 9, then 14, and writes nothing before that. Grants go whole: nothing is cut to the doors.
 ghost use Rattle.model.specs.Answer.{writtenAnswer};
-ghost use Rattle.index.specs.FileCalls.{writeCall};
-ghost use Rattle.index.specs.Contract.{Lends};
+ghost use Rattle.calls.specs.FileCalls.{writeCall};
+ghost use Rattle.calls.specs.Contract.{Lends};
 use crate::sorted_cells::sort_cells;
 use crate::write_file::write_file;
 use geometry::range::range_of_doors;

@@ -17,8 +17,8 @@ use Rattle.grants_file.specs.Record.{encodeRecord, decodeRecord}
 use Rattle.grants_file.specs.Block.{magic, sealed, headerBlock, recordBlock, recordsOf, wrongChecksum, wrongPadding}
 use Rattle.grants_file.specs.File.{fileOf}
 use Rattle.grants_file.specs.Verdict.{wrongBlockCount, lastBefore}
-use Rattle.slip_text.specs.Ascii.{ascii}
-use Rattle.slip_text.specs.Numeral.{digitsBy, numeral}
+use Rattle.text.specs.Ascii.{ascii}
+use Rattle.text.specs.Numeral.{digitsBy, numeral}
 use Rattle.file_view.specs.declared.Flaw.the-variants.{Sound, Length, Checksum, Mark, BlockNumber, TooManyGrants, BlockCount, RecordCount, DoorOrder, Fill, NumberOrder, Kind, Reversed, Doors}
 use Rattle.file_view.specs.Flaws.{headerFlaws, layoutFlaws, recordsFlaws, blockFlaws, fileFlaws, firstFlaw, flawIn}
 use Rattle.file_view.specs.FlawText.{flawText}

@@ -9,8 +9,8 @@ use mathlib.Core.Option.{Option, none, some}
 use lib.ListN.{length, take}
 use Rattle.model.specs.declared.Fault.{Fault}
 use Rattle.model.specs.Fault.{faultNumber}
-use Rattle.slip_text.specs.Ascii.{ascii}
-use Rattle.slip_text.specs.Numeral.{digitsBy, numeral}
+use Rattle.text.specs.Ascii.{ascii}
+use Rattle.text.specs.Numeral.{digitsBy, numeral}
 use Rattle.file_view.specs.declared.Flaw.{Flaw}
 use Rattle.file_view.specs.declared.Flaw.the-variants.{Sound, Length, Checksum, Mark, BlockNumber, TooManyGrants, BlockCount, RecordCount, DoorOrder, Fill, NumberOrder, Kind, Reversed, Doors}
 use Rattle.file_view.specs.Flaws.{flawFault}

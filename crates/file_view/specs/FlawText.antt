@@ -5,8 +5,8 @@
 -- The numbers of the faults stand in model/specs/Fault. Assumes nothing: these are definitions.
 use Prim.Native.Nat.{ℕ}
 use mathlib.Core.List.{List, _++_}
-use Rattle.slip_text.specs.Ascii.{ascii}
-use Rattle.slip_text.specs.Numeral.{numeral}
+use Rattle.text.specs.Ascii.{ascii}
+use Rattle.text.specs.Numeral.{numeral}
 use Rattle.file_view.specs.declared.Flaw.{Flaw}
 use Rattle.file_view.specs.declared.Flaw.the-variants.{Sound, Length, Checksum, Mark, BlockNumber, TooManyGrants, BlockCount, RecordCount, DoorOrder, Fill, NumberOrder, Kind, Reversed, Doors}
 

@@ -3,11 +3,11 @@
 ghost use mathlib.Core.Path.{_≡_};
 ghost use Prim.Native.Nat.{_+_, _≤_};
 ghost use lib.ListN.{length, take};
-ghost use Rattle.slip_text.specs.Put.{Put, Counts};
+ghost use Rattle.text.specs.Put.{Put, Counts};
 ghost use Rattle.file_view.specs.FlawText.{textBytes, reasonBytes, numeralBytes, withNumber, blockText, pairText, recordText, flawText};
 use crate::Flaw;
-use slip_text::printing::put_number;
-use slip_text::printing::put_text;
+use text::put::put_number;
+use text::put::put_text;
 
 // Room for the longest line.
 pub const FLAW_BYTES: usize = 200;

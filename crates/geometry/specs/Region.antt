@@ -8,7 +8,7 @@
 --   halfOf s l h          the half of the range l to h on a side
 --   narrow r a l h        the region with another range on an axis; a half is one
 --   meetsOn r q a, meets r q   the two share a coordinate on the axis, and on every axis
--- Source 001's (2b) names the left son's low where the right son's is meant; (3) is half-open, so its end is one above `high`.
+-- Source 001's (2b) names the left child's low where the right child's is meant; (3) is half-open, so its end is one above `high`.
 -- Assumes nothing: these are definitions.
 use Prim.Native.Nat.{ℕ, _+_, _/_, _<_}
 use mathlib.Core.Path.{_≡_}

@@ -4,7 +4,7 @@ pub mod axis;
 pub mod range;
 pub mod region;
 
-// The son on the left has the lower half of a region, the one on the right the upper half.
+// The child on the left has the lower half of a region, the one on the right the upper half.
 pub enum Side {
     Left,
     Right,

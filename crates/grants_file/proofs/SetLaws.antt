@@ -8,9 +8,9 @@ use Prim.Native.Nat.{ℕ, _<_}
 use mathlib.Core.Path.{_≡_, refl, sym, subst}
 use mathlib.Core.List.{List, List·Memᴰ, List·Memᴰ·head, List·Memᴰ·tail}
 use native.Mathlib.Omega.{arith}
-use Rattle.lists.specs.Tests.{keep}
+use Rattle.lists.specs.Tests.{filter}
 use Rattle.lists.specs.Sort.{sortBy}
-use Rattle.lists.proofs.TestLaws.{keep-all}
+use Rattle.lists.proofs.TestLaws.{filter-all}
 use Rattle.lists.proofs.SortLaws.{Rises, rises-none, rises-more, rises-ascends, ascends-sortBy}
 use Rattle.model.specs.declared.Grant.{Grant}
 use Rattle.model.specs.Interval.{Interval}
@@ -36,5 +36,5 @@ module _ {doors : Interval} {gs : List Grant} (s : FileSet doors gs) where
   pub set-sorted : sortBy (λ g. g .number) gs ≡ gs
   set-sorted = ascends-sortBy (λ g. g .number) (rises-ascends (λ g. g .number) set-rises)
 
-  pub set-touching : keep (touches doors) gs ≡ gs
-  set-touching = keep-all (touches doors) gs (λ g m. s .each g m .touching)
+  pub set-touching : filter (touches doors) gs ≡ gs
+  set-touching = filter-all (touches doors) gs (λ g m. s .each g m .touching)

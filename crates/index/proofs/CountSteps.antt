@@ -14,9 +14,9 @@ use Rattle.geometry.specs.SearchRange.{rangeOfAll}
 use Rattle.pool.specs.Capacity.{poolCapacity}
 use Rattle.index.specs.declared.hits.Hits.{Hits}
 use Rattle.index.specs.declared.hits.Hits.the-variants.{Broken, Found}
-use Rattle.index.specs.Walks.{fullSearch, hitsOf}
+use Rattle.calls.specs.Walks.{fullSearch, hitsOf}
 use Rattle.index.specs.Hits.{HitsFound}
-use Rattle.index.specs.Calls.{countCall}
+use Rattle.calls.specs.Calls.{countCall}
 use Rattle.index.proofs.HitsLaws.{found-hits, length-hits}
 use Rattle.index.proofs.RefusalSteps.{pool-taken}
 use Rattle.index.proofs.LookSteps.{look-bad, look-broken, look-done}

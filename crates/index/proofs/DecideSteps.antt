@@ -18,7 +18,7 @@ use Rattle.pool.specs.Cell.{grantAt}
 use Rattle.index.specs.declared.hits.Hits.{Hits}
 use Rattle.index.specs.declared.hits.Hits.the-variants.{Broken, Found}
 use Rattle.index.specs.Hits.{HitsFound}
-use Rattle.index.specs.Calls.{decideCall}
+use Rattle.calls.specs.Calls.{decideCall}
 use Rattle.index.proofs.HitsLaws.{found-hits}
 use Rattle.index.proofs.LookSteps.{look-bad, look-broken, look-done}
 

@@ -17,16 +17,16 @@ use Rattle.geometry.specs.Region.{Region}
 use Rattle.pool.specs.Capacity.{poolLength}
 use Rattle.pool.proofs.CapacityLaws.{capacityOf-poolLength}
 use Rattle.adt.specs.Search.{broken, search}
-use Rattle.adt.specs.SearchMemory.{foundIn, Stands}
+use Rattle.adt.specs.SearchMemory.{foundIn, Encodes}
 use Rattle.adt.proofs.EnterSteps.{stands-as}
 use Rattle.adt.proofs.HitLaws.{stands-within}
 use Rattle.index.specs.declared.hits.Hits.{Hits}
 use Rattle.index.specs.declared.hits.Hits.the-variants.{Broken, Found}
-use Rattle.index.specs.Walks.{isBroken, hitsOf}
+use Rattle.calls.specs.Walks.{isBroken, hitsOf}
 use Rattle.index.specs.Hits.{CellsAt, HitsAt, HitsFound}
 
 module _ (w : List ℕ) (c : ℕ) (q : Region) (few : c ≤ maxGrants) (long : length w ≡ poolLength c)
-    {r : Bool} {h t : List ℕ} (s : Stands c r h t (search w q)) where
+    {r : Bool} {h t : List ℕ} (s : Encodes c r h t (search w q)) where
   pub hits-broken : r ≡ false → HitsFound w q h Broken
   unfolding HitsFound
   hits-broken e = sym (stands-as s e)
@@ -34,7 +34,7 @@ module _ (w : List ℕ) (c : ℕ) (q : Region) (few : c ≤ maxGrants) (long : l
   pub hits-found : r ≡ true → HitsFound w q h (Found (foundIn t))
   unfolding HitsFound
   hits-found e =
-      let st : Stands c true h t (search w q) = subst (λ (b : Bool). Stands c b h t (search w q)) e s in
+      let st : Encodes c true h t (search w q) = subst (λ (b : Bool). Encodes c b h t (search w q)) e s in
       let cap = capacityOf-poolLength w c long in
       let n = st .counted in
       record {

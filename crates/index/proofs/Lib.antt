@@ -1,25 +1,8 @@
 -- Laws of the calls, for the crates above.
-pub mod Represents
-pub mod QueryLaws
-pub mod StartLaws
-pub mod LiveNumberLaws
-pub mod GrantLaws
-pub mod RevokeLaws
-pub mod CallLaws
-pub mod HoldsLaws
-pub mod WriteLaws
-pub mod LoadLaws
-pub mod HungLaws
-pub mod MatchLaws
-pub mod AlikeLaws
-pub mod SoundLaws
-pub mod LinkCauseLaws
-pub mod OrderLaws
 pub mod FindLaws
 pub mod PlanLaws
 pub mod RefusalSteps
 pub mod HitsLaws
-pub mod FewHitsLaws
 pub mod LookSteps
 pub mod CountSteps
 pub mod NumberLaws

@@ -24,11 +24,11 @@ use Rattle.pool.specs.Capacity.{wrongPool, poolCapacity}
 use Rattle.adt.specs.Search.{Search}
 use Rattle.index.specs.declared.hits.Hits.{Hits}
 use Rattle.index.specs.declared.hits.Hits.the-variants.{Broken, Found}
-use Rattle.index.specs.Walks.{boxSearch, hitsOf, isBroken}
+use Rattle.calls.specs.Walks.{boxSearch, hitsOf, isBroken}
 use Rattle.index.specs.Hits.{numbersAt, HitsAt, HitsFound}
-use Rattle.index.specs.Order.{listOrder}
-use Rattle.index.specs.Calls.{listCall}
-use Rattle.index.specs.Contract.{Lends}
+use Rattle.calls.specs.Order.{listOrder}
+use Rattle.calls.specs.Calls.{listCall}
+use Rattle.calls.specs.Contract.{Lends}
 use Rattle.index.proofs.HitsLaws.{broken-search, found-hits, length-hits}
 use Rattle.index.proofs.NumberLaws.{length-numbersAt}
 use Rattle.index.proofs.RefusalSteps.{refusedBy, first-holds, first-fails, none-left, lends-as, pool-refused, pool-taken}

@@ -12,9 +12,9 @@ use Rattle.pool.specs.Capacity.{poolCapacity}
 use Rattle.adt.specs.Search.{search}
 use Rattle.index.specs.declared.hits.Hits.{Hits}
 use Rattle.index.specs.declared.hits.Hits.the-variants.{Broken, Found}
-use Rattle.index.specs.Walks.{isBroken}
+use Rattle.calls.specs.Walks.{isBroken}
 use Rattle.index.specs.Hits.{HitsFound}
-use Rattle.index.specs.Order.{lookOrder}
+use Rattle.calls.specs.Order.{lookOrder}
 use Rattle.index.proofs.HitsLaws.{broken-search, found-hits}
 use Rattle.index.proofs.RefusalSteps.{first-holds, first-fails, none-left, leaves-as, pool-refused, pool-taken}
 

@@ -1,12 +1,12 @@
 -- How grant, revoke and start come to their answer, test by test.
 --   sized                         a pool that was taken has the size of its cells
 --   grant-pool, grant-zero, grant-kind, grant-reversed, grant-broken, grant-live, grant-absent   grant's line, in its order
---   slot-way, slot-lost, free-above, free-none, free-next-above, free-planned   the way down and the free head
+--   slot-descent, slot-broken, free-above, free-none, free-next-above, free-planned   the way down and the free head
 --   plan-inserts, grant-refused, grant-done     what grant stores and leaves
 --   absent-line                                 where the number isn't found, the way down and the free head alone decide
 --   planned-as                                  a plan, of an equal request
---   hung-refused, hung-done, hung-grant         what is left where the number is known to be new; it is what grant leaves
---   revoke-pool, revoke-zero, revoke-broken, revoke-absent, revoke-lost, revoke-planned    revoke's line
+--   added-refused, added-done, added-grant         what is left where the number is known to be new; it is what grant leaves
+--   revoke-pool, revoke-zero, revoke-broken, revoke-absent, revoke-removal-broken, revoke-planned    revoke's line
 --   hit-within, plan-removes, revoke-refused, revoke-done   what revoke stores and leaves
 --   start-refused, start-done
 -- Assumes nothing.
@@ -34,25 +34,25 @@ use Rattle.pool.specs.Capacity.{Sized, capacityOf, poolLength, wrongLength, wro
 use Rattle.pool.specs.Fresh.{freshPool}
 use Rattle.pool.proofs.CapacityLaws.{capacityOf-poolLength}
 use Rattle.adt.specs.Search.{Spot, broken, going}
-use Rattle.adt.specs.Insert.{blankAt, wayDown, descend, freeHead, nextFree, freeBroken, inserted}
+use Rattle.adt.specs.Insert.{blankAt, descendFrom, descend, freeHead, nextFree, freeBroken, inserted}
 use Rattle.adt.specs.Insert as insert
 use Rattle.adt.specs.Remove.{terminal, follow, terminalFrom, removed}
 use Rattle.adt.specs.Remove as remove
 use Rattle.adt.specs.declared.insert.Slot.{Slot}
-use Rattle.adt.specs.WalkResult.{wayOf, InPool, Removable}
-use Rattle.adt.proofs.WithinLaws.{way-within, follow-within}
+use Rattle.adt.specs.WalkResult.{insertionWalkOf, InPool, Removable}
+use Rattle.adt.proofs.WithinLaws.{descent-within, follow-within}
 use Rattle.index.specs.declared.find.NumberHit.the-variants as hit
 use Rattle.index.specs.declared.grant.Insertion.{Insertion}
 use Rattle.index.specs.declared.grant.Insertion.the-variants as insertion
 use Rattle.index.specs.declared.revoke.Removal.the-variants as removal
-use Rattle.index.specs.Walks.{numberSearch, isBroken, hitsOf, requestWay, removalOf}
-use Rattle.index.specs.Causes.{numberLive, noFreeCell, grantBroken, revokeBroken}
-use Rattle.index.specs.Order.{startOrder, grantOrder, revokeOrder}
-use Rattle.index.specs.Calls.{startCall, grantCall, revokeCall, grantLine, revokeLine}
-use Rattle.index.specs.Contract.{Leaves}
+use Rattle.calls.specs.Walks.{numberSearch, isBroken, hitsOf, insertionWalk, removalOf}
+use Rattle.calls.specs.Causes.{numberLive, noFreeCell, grantBroken, revokeBroken}
+use Rattle.calls.specs.Order.{startOrder, grantOrder, revokeOrder}
+use Rattle.calls.specs.Calls.{startCall, grantCall, revokeCall, grantLine, revokeLine}
+use Rattle.calls.specs.Contract.{Leaves}
 use Rattle.index.specs.NumberSearch.{FirstAt, NumberFound}
 use Rattle.index.proofs.RefusalSteps.{Taken}
-use Rattle.index.specs.Plans.{slotOrder, hung, Insertable, InsertionPlanned, Found, RemovalPlanned}
+use Rattle.index.specs.Plans.{slotOrder, added, Insertable, InsertionPlanned, Found, RemovalPlanned}
 
 -- a pool that was taken has the size of its cells
 pub sized : {wrong : Bool} {w : List ℕ} {c : ℕ} → Taken wrong w c → Sized w c
@@ -117,15 +117,15 @@ module _ (w : List ℕ) (r : Request) where
             }
 
   -- the way down, from what the code finds, and the free head
-  pub slot-way : {g : Grant} {point : List ℕ} {slot found : Slot} → g ≡ requested r → point ≡ pointOf g → wayOf slot ≡ descend w point → slot ≡ found
-      → requestWay w r ≡ wayOf found
-  slot-way eg ep e es = ap (λ (g : Grant). descend w (pointOf g)) (sym eg) ∙ ap (descend w) (sym ep) ∙ sym e ∙ ap wayOf es
+  pub slot-descent : {g : Grant} {point : List ℕ} {slot found : Slot} → g ≡ requested r → point ≡ pointOf g → insertionWalkOf slot ≡ descend w point → slot ≡ found
+      → insertionWalk w r ≡ insertionWalkOf found
+  slot-descent eg ep e es = ap (λ (g : Grant). descend w (pointOf g)) (sym eg) ∙ ap (descend w) (sym ep) ∙ sym e ∙ ap insertionWalkOf es
 
-  pub slot-lost : requestWay w r ≡ insert.lost → InsertionPlanned (slotOrder w r) w r (insertion.Refused BrokenLinks)
+  pub slot-broken : insertionWalk w r ≡ insert.broken → InsertionPlanned (slotOrder w r) w r (insertion.Refused BrokenLinks)
   unfolding InsertionPlanned slotOrder firstFault
-  slot-lost e = rw e
+  slot-broken e = rw e
 
-  module _ {c link free : ℕ} (sized : Sized w c) (way : requestWay w r ≡ blankAt link) (head : free ≡ freeHead w) where
+  module _ {c link free : ℕ} (sized : Sized w c) (way : insertionWalk w r ≡ blankAt link) (head : free ≡ freeHead w) where
     capacity-is : capacityOf w ≡ c
     capacity-is = capacityOf-poolLength w c (sized .long)
 
@@ -148,7 +148,7 @@ module _ (w : List ℕ) (r : Request) where
         free-planned h = record {
           passes = rw (way, capacity-is, ← after, ← head, le-ltb c free le, ne-eqb free 0 nz, le-ltb c next h);
           way = way;
-          place = way-within w c (sized .long) _ _ _ _ _ _ (omega (arith, sized .long)) (rw capacity-is at way);
+          place = descent-within w c (sized .long) _ _ _ _ _ _ (omega (arith, sized .long)) (rw capacity-is at way);
           head = head;
           after = after;
           cell = record { some = omega arith; few = omega (arith, sized .few); long = omega (arith, sized .long) };
@@ -170,17 +170,17 @@ module _ (w : List ℕ) (r : Request) where
   grant-done link free next p e = record { answered = rw (p .passes); left = e ∙ rw (p .passes, p .way) }
 
   -- the same where the number is known to be new
-  pub hung-refused : (fault : Fault) → InsertionPlanned (slotOrder w r) w r (insertion.Refused fault) → w ≡ hung w r
-  unfolding InsertionPlanned hung refusing
-  hung-refused fault e = rw (hung, e)
+  pub added-refused : (fault : Fault) → InsertionPlanned (slotOrder w r) w r (insertion.Refused fault) → w ≡ added w r
+  unfolding InsertionPlanned added refusing
+  added-refused fault e = rw (added, e)
 
-  pub hung-done : (link free next : ℕ) {v : List ℕ} → InsertionPlanned (slotOrder w r) w r (insertion.At link free next) → v ≡ inserted w link (requested r) → v ≡ hung w r
-  unfolding InsertionPlanned hung refusing
-  hung-done link free next p e = e ∙ rw (hung, p .passes, p .way)
+  pub added-done : (link free next : ℕ) {v : List ℕ} → InsertionPlanned (slotOrder w r) w r (insertion.At link free next) → v ≡ inserted w link (requested r) → v ≡ added w r
+  unfolding InsertionPlanned added refusing
+  added-done link free next p e = e ∙ rw (added, p .passes, p .way)
 
-  pub hung-grant : firstFault (grantLine w r) ≡ firstFault (slotOrder w r) → grantCall w r .state ≡ hung w r
-  unfolding hung grantCall refusing
-  hung-grant e = rw e
+  pub added-grant : firstFault (grantLine w r) ≡ firstFault (slotOrder w r) → grantCall w r .state ≡ added w r
+  unfolding added grantCall refusing
+  added-grant e = rw e
 
 -- revoke's line, as far as its tests have come
 module _ (w : List ℕ) (n : ℕ) where
@@ -213,9 +213,9 @@ module _ (w : List ℕ) (n : ℕ) where
         unfolding NumberFound
         hit-within = (f .some, subst (λ (x : ℕ). cell ≤ x) (capacityOf-poolLength w c (sized .long)) (f .few), f .deep)
 
-        pub revoke-lost : remove.lost ≡ follow w c (levels - level) cell link 1 → RemovalPlanned w n (removal.Refused BrokenLinks)
+        pub revoke-removal-broken : remove.broken ≡ follow w c (levels - level) cell link 1 → RemovalPlanned w n (removal.Refused BrokenLinks)
         unfolding RemovalPlanned revokeOrder firstFault NumberFound revokeBroken
-        revoke-lost e = let lost = sym (e ∙ walk) in rw (p, ne-eqb n 0 nz, lost, f .found, eqb·suc-zero (length (f .others)))
+        revoke-removal-broken e = let broken = sym (e ∙ walk) in rw (p, ne-eqb n 0 nz, broken, f .found, eqb·suc-zero (length (f .others)))
 
         pub revoke-planned : (leaf cut : ℕ) → terminal leaf cut ≡ follow w c (levels - level) cell link 1 → RemovalPlanned w n (removal.Of cell link leaf cut)
         unfolding RemovalPlanned revokeOrder firstFault NumberFound revokeBroken

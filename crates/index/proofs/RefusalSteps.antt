@@ -18,7 +18,7 @@ use Rattle.model.specs.Answer.{refusal}
 use Rattle.model.specs.Refusal.{Cause, _if_, Step, firstFault, refusing}
 use Rattle.pool.specs.Capacity.{poolLength, capacityOf, wrongLength, wrongPool, lengthCapacity, poolCapacity}
 use Rattle.pool.proofs.CapacityLaws.{capacityOf-poolLength, wrongLength-iff, wrongPool-iff}
-use Rattle.index.specs.Contract.{Leaves, Lends}
+use Rattle.calls.specs.Contract.{Leaves, Lends}
 
 -- a refusal leaves the state and the lent memory
 abbrev pub refusedBy : {S : Type 0} → Fault → S → List ℕ → Step S

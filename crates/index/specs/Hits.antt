@@ -17,7 +17,7 @@ use Rattle.adt.specs.Search.{broken, search}
 use Rattle.adt.specs.WalkResult.{InPool}
 use Rattle.index.specs.declared.hits.Hits.{Hits}
 use Rattle.index.specs.declared.hits.Hits.the-variants.{Broken, Found}
-use Rattle.index.specs.Walks.{hitsOf, isBroken}
+use Rattle.calls.specs.Walks.{hitsOf, isBroken}
 
 pub record CellsAt (w hits : List ℕ) (n : ℕ) : Type 0 where
   pub room : length hits ≡ maxGrants

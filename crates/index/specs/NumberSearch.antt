@@ -10,7 +10,7 @@ use Rattle.pool.specs.Capacity.{capacityOf}
 use Rattle.adt.specs.Search.{broken, going}
 use Rattle.index.specs.declared.find.NumberHit.{NumberHit}
 use Rattle.index.specs.declared.find.NumberHit.the-variants.{Broken, Absent, At}
-use Rattle.index.specs.Walks.{numberSearch, hitsOf, isBroken}
+use Rattle.calls.specs.Walks.{numberSearch, hitsOf, isBroken}
 use mathlib.Core.Bool.{true, false}
 
 pub record FirstAt (w : List ℕ) (n k level link : ℕ) : Type 0 where

@@ -1,8 +1,8 @@
 -- What the code of grant and revoke knows once all walks and tests are done, and before it writes. Contracts of inner functions cite it;
 -- no claim does.
 --   slotOrder w r                    the end of grant's order line, where the number isn't found
---   hung w r                         the words with the requested grant hung, where the number is known to be new: no search for it
---   hungAll w gs                     the same of grants, one after the other
+--   added w r                         the words with the requested grant added, where the number is known to be new: no search for it
+--   addedAll w gs                     the same of grants, one after the other
 --   InsertionPlanned causes w r p    p refuses by these causes, or says where the requested grant hangs
 --   RemovalPlanned w n p             p refuses as revoke does, or says which cell goes and which takes its place
 -- Assumes nothing: these are definitions.
@@ -26,25 +26,25 @@ use Rattle.index.specs.declared.grant.Insertion.{Insertion}
 use Rattle.index.specs.declared.grant.Insertion.the-variants as insertion
 use Rattle.index.specs.declared.revoke.Removal.{Removal}
 use Rattle.index.specs.declared.revoke.Removal.the-variants as removal
-use Rattle.index.specs.Walks.{numberSearch, firstHit, firstSpotOf, requestWay, removalOf}
-use Rattle.index.specs.Causes.{noFreeCell, wayLost}
-use Rattle.index.specs.Calls.{grantedWords, revokeLine}
-use Rattle.index.specs.FileCalls.{requestOf}
+use Rattle.calls.specs.Walks.{numberSearch, firstHit, firstSpotOf, insertionWalk, removalOf}
+use Rattle.calls.specs.Causes.{noFreeCell, insertionBroken}
+use Rattle.calls.specs.Calls.{grantedWords, revokeLine}
+use Rattle.calls.specs.FileCalls.{requestOf}
 
 unfoldable pub slotOrder : List ℕ → Request → List Cause
-slotOrder w r = BrokenLinks if (wayLost (requestWay w r) || freeBroken w) ∷ Full if noFreeCell w ∷ []
+slotOrder w r = BrokenLinks if (insertionBroken (insertionWalk w r) || freeBroken w) ∷ Full if noFreeCell w ∷ []
 
-unfoldable pub hung : List ℕ → Request → List ℕ
-hung w r = refusing (slotOrder w r) w [] (record { state = grantedWords w r (requestWay w r); answer = accepted []; lent = [] }) .state
+unfoldable pub added : List ℕ → Request → List ℕ
+added w r = refusing (slotOrder w r) w [] (record { state = grantedWords w r (insertionWalk w r); answer = accepted []; lent = [] }) .state
 
 -- one grant after the other
-unfoldable pub hungAll : List ℕ → List Grant → List ℕ
-hungAll w [] = w
-hungAll w (g ∷ gs) = hungAll (hung w (requestOf g)) gs
+unfoldable pub addedAll : List ℕ → List Grant → List ℕ
+addedAll w [] = w
+addedAll w (g ∷ gs) = addedAll (added w (requestOf g)) gs
 
 pub record Insertable (causes : List Cause) (w : List ℕ) (r : Request) (link free next : ℕ) : Type 0 where
   pub passes : firstFault causes ≡ none
-  pub way : requestWay w r ≡ blankAt link
+  pub way : insertionWalk w r ≡ blankAt link
   pub place : link < length w
   pub head : free ≡ freeHead w
   pub after : next ≡ nextFree w

@@ -1,7 +1,7 @@
 // count: the live grants, and C less live (document 01, "The plain book"). Refuses by 1, then 9.
 ghost use mathlib.Core.Path.{_≡_};
 ghost use Rattle.model.specs.Answer.{countedAnswer};
-ghost use Rattle.index.specs.Calls.{countCall};
+ghost use Rattle.calls.specs.Calls.{countCall};
 use crate::hits::Hits;
 use crate::hits::find_hits;
 use geometry::region::root_region;

@@ -6,7 +6,7 @@ ghost use Rattle.model.specs.Answer.{decisionAnswer};
 ghost use Rattle.model.specs.Decide.{decideAmong};
 ghost use Rattle.pool.specs.Cell.{grantAt};
 ghost use Rattle.index.specs.Hits.{CellsAt};
-ghost use Rattle.index.specs.Calls.{decideCall};
+ghost use Rattle.calls.specs.Calls.{decideCall};
 use crate::hits::Hits;
 use crate::hits::find_hits;
 use adt::search::HitCells;

@@ -29,17 +29,17 @@ pub fn find_number(pool: &[u16], cells: usize, number: u16) -> NumberHit
     ensures { λ r. ⌜ NumberFound (now (pool .entry)) number r ⌝ }
 {
     let mut hits = [0u16; MAX_CAPACITY];
-    let mut tally = [0usize; 4];
+    let mut counters = [0usize; 4];
     let range = range_of_number(number);
-    if !search(pool, cells, &range, &mut hits, &mut tally) {
+    if !search(pool, cells, &range, &mut hits, &mut counters) {
         return NumberHit::Broken;
     }
-    if tally[FOUND] == 0 {
+    if counters[FOUND] == 0 {
         return NumberHit::Absent;
     }
     NumberHit::At {
         cell: wide(hits[0]),
-        level: tally[LEVEL],
-        link: tally[LINK],
+        level: counters[LEVEL],
+        link: counters[LINK],
     }
 }

@@ -2,11 +2,11 @@
 ghost use mathlib.Core.Path.{_≡_};
 ghost use Rattle.model.specs.Answer.{outcomeAnswer};
 ghost use Rattle.model.specs.Call.{request, requested};
-ghost use Rattle.index.specs.Calls.{grantLine, grantCall};
-ghost use Rattle.index.specs.Contract.{Leaves};
+ghost use Rattle.calls.specs.Calls.{grantLine, grantCall};
+ghost use Rattle.calls.specs.Contract.{Leaves};
 ghost use Rattle.pool.specs.Capacity.{Sized};
 ghost use Rattle.adt.specs.Insert.{blankAt};
-ghost use Rattle.index.specs.Walks.{requestWay};
+ghost use Rattle.calls.specs.Walks.{insertionWalk};
 ghost use Rattle.index.specs.Plans.{slotOrder, InsertionPlanned};
 use crate::find::NumberHit;
 use crate::find::find_number;
@@ -61,7 +61,7 @@ fn plan_free(
     kind: u8,
     bounds: Box,
 ) -> Insertion
-    requires { ⌜ Sized (now pool) cells × (requestWay (now pool) (request number rank kind bounds) ≡ blankAt link) ⌝ }
+    requires { ⌜ Sized (now pool) cells × (insertionWalk (now pool) (request number rank kind bounds) ≡ blankAt link) ⌝ }
     ensures { λ r. ⌜ InsertionPlanned (slotOrder (now (pool .entry)) (request number rank kind bounds)) (now (pool .entry)) (request number rank kind bounds) r ⌝ }
 {
     let free = wide(pool[FREE]);
@@ -92,7 +92,7 @@ pub fn plan_slot(
 {
     let slot = find_slot(pool, cells, point_of(requested(number, rank, kind, bounds)));
     match slot {
-        Slot::Lost => Insertion::Refused(Fault::BrokenLinks),
+        Slot::Broken => Insertion::Refused(Fault::BrokenLinks),
         Slot::At(link) => plan_free(pool, cells, link, number, rank, kind, bounds),
     }
 }

@@ -22,9 +22,9 @@ pub fn find_hits(pool: &[u16], cells: usize, range: &Region, hits: &mut HitCells
     requires { ⌜ (cells ≤ maxGrants) × (length (now pool) ≡ poolLength cells) × (length (now hits) ≡ maxGrants) × OneSided (now range) ⌝ }
     ensures { λ r. ⌜ HitsFound (now (pool .entry)) (now (range .entry)) (now (hits .exit)) r ⌝ }
 {
-    let mut tally = [0usize; 4];
-    if !search(pool, cells, range, hits, &mut tally) {
+    let mut counters = [0usize; 4];
+    if !search(pool, cells, range, hits, &mut counters) {
         return Hits::Broken;
     }
-    Hits::Found(tally[FOUND])
+    Hits::Found(counters[FOUND])
 }

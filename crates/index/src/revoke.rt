@@ -1,7 +1,7 @@
 // revoke: drops the grant of a number. Refuses 1, 3, 9 and 7, in this order, and then leaves everything as it was.
 ghost use Rattle.model.specs.Answer.{outcomeAnswer};
-ghost use Rattle.index.specs.Calls.{revokeCall};
-ghost use Rattle.index.specs.Contract.{Leaves};
+ghost use Rattle.calls.specs.Calls.{revokeCall};
+ghost use Rattle.calls.specs.Contract.{Leaves};
 ghost use Rattle.index.specs.Plans.{RemovalPlanned};
 use crate::find::NumberHit;
 use crate::find::find_number;
@@ -42,7 +42,7 @@ fn plan_removal(pool: &[u16], number: u16) -> Removal
         NumberHit::At { cell, level, link } => {
             let end = find_terminal(pool, cells, LEVELS - level, cell, link, 1);
             match end {
-                Terminal::Lost => Removal::Refused(Fault::BrokenLinks),
+                Terminal::Broken => Removal::Refused(Fault::BrokenLinks),
                 Terminal::At {
                     cell: leaf,
                     link: cut,

@@ -1,7 +1,7 @@
 // start: an empty index in any memory of a pool's length. Refuses 1, and then leaves everything as it was.
 ghost use Rattle.model.specs.Answer.{outcomeAnswer};
-ghost use Rattle.index.specs.Calls.{startCall};
-ghost use Rattle.index.specs.Contract.{Leaves};
+ghost use Rattle.calls.specs.Calls.{startCall};
+ghost use Rattle.calls.specs.Contract.{Leaves};
 use model::Fault;
 use model::Outcome;
 use pool::fresh::make_fresh;

@@ -16,8 +16,8 @@ use native.Mathlib.Omega.{arith}
 use lib.Dec.{eqb}
 use lib.ListN.{length}
 use borrow.Author.Tests.{eqb-true, ne-eqb, eqb-false, not-true}
-use Rattle.lists.specs.Tests.{keep}
-use Rattle.lists.proofs.TestLaws.{keep-mem, keep-all}
+use Rattle.lists.specs.Tests.{filter}
+use Rattle.lists.proofs.TestLaws.{filter-mem, filter-all}
 
 pub data Distinct {A : Type 0} : List A → Type 0 where
   distinct-none : Distinct []
@@ -48,33 +48,33 @@ module _ {A : Type 0} where
       go (inl m) = n m
       go (inr i) = f k (List·Memᴰ·head refl) i
 
-  pub distinct-keep : (t : A → Bool) {ks : List A} → Distinct ks → Distinct (keep t ks)
-  unfolding keep
-  distinct-keep t distinct-none = distinct-none
-  distinct-keep t (distinct-more {k = k} {ks = ks} n d) = go (t k) (distinct-keep t d)
+  pub distinct-filter : (t : A → Bool) {ks : List A} → Distinct ks → Distinct (filter t ks)
+  unfolding filter
+  distinct-filter t distinct-none = distinct-none
+  distinct-filter t (distinct-more {k = k} {ks = ks} n d) = go (t k) (distinct-filter t d)
     where
-      go : (b : Bool) → Distinct (keep t ks) → Distinct (cond b (k ∷ keep t ks) (keep t ks))
-      go true r = distinct-more (λ m. n (keep-mem t ks k m .0)) r
+      go : (b : Bool) → Distinct (filter t ks) → Distinct (cond b (k ∷ filter t ks) (filter t ks))
+      go true r = distinct-more (λ m. n (filter-mem t ks k m .0)) r
       go false r = r
 
 -- the list without x
 abbrev without : ℕ → List ℕ → List ℕ
-without x ks = keep (λ k. not (eqb k x)) ks
+without x ks = filter (λ k. not (eqb k x)) ks
 
 without-length : (x : ℕ) {ks : List ℕ} → Distinct ks → length ks ≤ suc (length (without x ks))
-unfolding keep
+unfolding filter
 without-length x distinct-none = omega arith
 without-length x (distinct-more {k = k} {ks = ks} n d) = go (eqb k x) refl (without-length x d)
   where
     go : (b : Bool) → eqb k x ≡ b → length ks ≤ suc (length (without x ks)) → suc (length ks) ≤ suc (length (cond (not b) (k ∷ without x ks) (without x ks)))
     go true e h =
-        let all : without x ks ≡ ks = keep-all _ ks (λ j m. ap not (ne-eqb j x (λ q. n (Memᴰ·cast (eqb-true k x e) (Memᴰ·cast (sym q) m))))) in
+        let all : without x ks ≡ ks = filter-all _ ks (λ j m. ap not (ne-eqb j x (λ q. n (Memᴰ·cast (eqb-true k x e) (Memᴰ·cast (sym q) m))))) in
         omega (arith, ap length all)
     go false e h = omega arith
 
 without-upto : (c : ℕ) (ks : List ℕ) → Upto (suc c) ks → Upto c (without (suc c) ks)
 without-upto c ks u k m =
-    let r = keep-mem _ ks k m in
+    let r = filter-mem _ ks k m in
     let b = u k (r .0) in
     let n = eqb-false k (suc c) (not-true (eqb k (suc c)) (r .1)) in
     (b .0, omega arith)
@@ -82,4 +82,4 @@ without-upto c ks u k m =
 pub pigeonhole : (c : ℕ) {ks : List ℕ} → Distinct ks → Upto c ks → length ks ≤ c
 pigeonhole zero distinct-none u = omega arith
 pigeonhole zero (distinct-more {k = k} n d) u = absurd (let b = u k (List·Memᴰ·head refl) in omega arith)
-pigeonhole (suc c) {ks} d u = omega (arith, without-length (suc c) d, pigeonhole c (distinct-keep _ d) (without-upto c ks u))
+pigeonhole (suc c) {ks} d u = omega (arith, without-length (suc c) d, pigeonhole c (distinct-filter _ d) (without-upto c ks u))

@@ -9,8 +9,8 @@ use mathlib.Core.Bool.{Bool, true, false, not, cond, _||_, false≢true}
 use mathlib.Core.List.{List, [], _∷_, map, List·Memᴰ, List·Memᴰ·head, List·Memᴰ·tail, Memᴰ·map, Memᴰ·of-map, Memᴰ·cast}
 use lib.Dec.{eqb, eqb·suc-zero}
 use lib.ListN.{length}
-use Rattle.lists.specs.Tests.{keep, any}
-use Rattle.lists.proofs.TestLaws.{keep-mem}
+use Rattle.lists.specs.Tests.{filter, any}
+use Rattle.lists.proofs.TestLaws.{filter-mem}
 use Rattle.lists.proofs.DistinctLaws.{Distinct, distinct-more}
 
 pub distinct-key : {A K : Type 0} (key : A → K) {xs : List A} → Distinct (map key xs) → (x y : A) → List·Memᴰ x xs → List·Memᴰ y xs → key x ≡ key y → x ≡ y
@@ -19,13 +19,13 @@ distinct-key key {xs = x ∷ xs} (distinct-more n d) y z (List·Memᴰ·head e) 
 distinct-key key {xs = x ∷ xs} (distinct-more n d) y z (List·Memᴰ·tail i) (List·Memᴰ·head f) q = absurd (n (Memᴰ·cast (ap key (sym f) ∙ sym q) (Memᴰ·map key i)))
 distinct-key key {xs = x ∷ xs} (distinct-more n d) y z (List·Memᴰ·tail i) (List·Memᴰ·tail j) q = distinct-key key d y z i j q
 
-pub distinct-keys-keep : {A K : Type 0} (key : A → K) (t : A → Bool) (xs : List A) → Distinct (map key xs) → Distinct (map key (keep t xs))
-unfolding keep
-distinct-keys-keep key t [] d = d
-distinct-keys-keep {A} key t (x ∷ xs) (distinct-more n d) = go (t x) (distinct-keys-keep key t xs d)
+pub distinct-keys-filter : {A K : Type 0} (key : A → K) (t : A → Bool) (xs : List A) → Distinct (map key xs) → Distinct (map key (filter t xs))
+unfolding filter
+distinct-keys-filter key t [] d = d
+distinct-keys-filter {A} key t (x ∷ xs) (distinct-more n d) = go (t x) (distinct-keys-filter key t xs d)
   where
-    go : (b : Bool) → Distinct (map key (keep t xs)) → Distinct (map key (cond b (x ∷ keep t xs) (keep t xs)))
-    go true r = distinct-more (λ m. let o = Memᴰ·of-map key (keep t xs) m in n (Memᴰ·cast (sym (o .2)) (Memᴰ·map key (keep-mem t xs (o .0) (o .1) .0)))) r
+    go : (b : Bool) → Distinct (map key (filter t xs)) → Distinct (map key (cond b (x ∷ filter t xs) (filter t xs)))
+    go true r = distinct-more (λ m. let o = Memᴰ·of-map key (filter t xs) m in n (Memᴰ·cast (sym (o .2)) (Memᴰ·map key (filter-mem t xs (o .0) (o .1) .0)))) r
     go false r = r
 
 module _ {A : Type 0} (t : A → Bool) where
@@ -38,13 +38,13 @@ module _ {A : Type 0} (t : A → Bool) where
       go true p q f = (x, List·Memᴰ·head refl, p)
       go false p q f = let r = f q in (r .0, List·Memᴰ·tail (r .1), r .2)
 
-  pub any-keep : (xs : List A) → any t xs ≡ not (eqb (length (keep t xs)) 0)
-  unfolding any keep
-  any-keep [] = refl
-  any-keep (x ∷ xs) = go (t x) (any-keep xs)
+  pub any-filter : (xs : List A) → any t xs ≡ not (eqb (length (filter t xs)) 0)
+  unfolding any filter
+  any-filter [] = refl
+  any-filter (x ∷ xs) = go (t x) (any-filter xs)
     where
-      go : (b : Bool) → any t xs ≡ not (eqb (length (keep t xs)) 0) → (b || any t xs) ≡ not (eqb (length (cond b (x ∷ keep t xs) (keep t xs))) 0)
-      go true e = rw (eqb·suc-zero (length (keep t xs)))
+      go : (b : Bool) → any t xs ≡ not (eqb (length (filter t xs)) 0) → (b || any t xs) ≡ not (eqb (length (cond b (x ∷ filter t xs) (filter t xs))) 0)
+      go true e = rw (eqb·suc-zero (length (filter t xs)))
       go false e = e
 
   pub mem-any : {x : A} {xs : List A} → List·Memᴰ x xs → t x ≡ true → any t xs ≡ true

@@ -5,13 +5,13 @@
 --   both-le, le-both         a test of two orders passes exactly if both hold
 --   each-all, all-each       the test of every number below n passes exactly if each one's does
 --   every-all, all-every     the same of the elements of a list
---   keep-append              what is kept of two lists in a row
---   keep-map                 of a list that is made from another
+--   filter-append              what is kept of two lists in a row
+--   filter-map                 of a list that is made from another
 --   mem-keep, keep-mem       an element is kept exactly if it is in the list and passes
 --   length-keep              no more are kept than there are
---   keep-none, keep-all      none is kept where none passes, and all where all pass
---   keep-same                tests that agree on the elements keep the same
---   keep-keep                a test that passes no more than another keeps as much of what the other kept
+--   filter-none, filter-all      none is kept where none passes, and all where all pass
+--   filter-same                tests that agree on the elements filter the same
+--   filter-filter                a test that passes no more than another keeps as much of what the other kept
 -- Assumes nothing.
 use Prim.Native.Nat.{ℕ, zero, suc, _<_, _≤_}
 use mathlib.Core.Logic.{_↔_}
@@ -24,7 +24,7 @@ use native.Mathlib.Nat.{lt-suc-self}
 use lib.Dec.{T, leb}
 use lib.ListN.{length}
 use borrow.Author.Tests.{leb-true, le-leb}
-use Rattle.lists.specs.Tests.{keep, every, each}
+use Rattle.lists.specs.Tests.{filter, every, each}
 
 pub T-iff : (t : Bool) → T t ↔ (t ≡ true)
 T-iff true = (λ _. refl, λ _. tt)
@@ -70,75 +70,75 @@ module _ {A : Type 0} (t : A → Bool) where
   all-every [] f = refl
   all-every (x ∷ xs) f = rw (f x (List·Memᴰ·head refl)) (all-every xs (λ y m. f y (List·Memᴰ·tail m)))
 
-  pub keep-append : (xs ys : List A) → keep t (xs ++ ys) ≡ keep t xs ++ keep t ys
-  unfolding keep
-  keep-append [] ys = refl
-  keep-append (x ∷ xs) ys = go (t x) (keep-append xs ys)
+  pub filter-append : (xs ys : List A) → filter t (xs ++ ys) ≡ filter t xs ++ filter t ys
+  unfolding filter
+  filter-append [] ys = refl
+  filter-append (x ∷ xs) ys = go (t x) (filter-append xs ys)
     where
-      go : (b : Bool) → keep t (xs ++ ys) ≡ keep t xs ++ keep t ys → cond b (x ∷ keep t (xs ++ ys)) (keep t (xs ++ ys)) ≡ cond b (x ∷ keep t xs) (keep t xs) ++ keep t ys
+      go : (b : Bool) → filter t (xs ++ ys) ≡ filter t xs ++ filter t ys → cond b (x ∷ filter t (xs ++ ys)) (filter t (xs ++ ys)) ≡ cond b (x ∷ filter t xs) (filter t xs) ++ filter t ys
       go true e = ap (λ (l : List A). x ∷ l) e
       go false e = e
 
-  pub mem-keep : (xs : List A) (x : A) → List·Memᴰ x xs → t x ≡ true → List·Memᴰ x (keep t xs)
-  unfolding keep
-  mem-keep (y ∷ ys) x (List·Memᴰ·head q) e = rw (sym (ap t q) ∙ e) (List·Memᴰ·head q)
-  mem-keep (y ∷ ys) x (List·Memᴰ·tail m) e = go (t y) (mem-keep ys x m e)
+  pub mem-filter : (xs : List A) (x : A) → List·Memᴰ x xs → t x ≡ true → List·Memᴰ x (filter t xs)
+  unfolding filter
+  mem-filter (y ∷ ys) x (List·Memᴰ·head q) e = rw (sym (ap t q) ∙ e) (List·Memᴰ·head q)
+  mem-filter (y ∷ ys) x (List·Memᴰ·tail m) e = go (t y) (mem-filter ys x m e)
     where
-      go : (b : Bool) → List·Memᴰ x (keep t ys) → List·Memᴰ x (cond b (y ∷ keep t ys) (keep t ys))
+      go : (b : Bool) → List·Memᴰ x (filter t ys) → List·Memᴰ x (cond b (y ∷ filter t ys) (filter t ys))
       go true i = List·Memᴰ·tail i
       go false i = i
 
-  pub keep-mem : (xs : List A) (x : A) → List·Memᴰ x (keep t xs) → List·Memᴰ x xs × (t x ≡ true)
-  unfolding keep
-  keep-mem [] x m = absurd (List·Memᴰ·not-nil m)
-  keep-mem (y ∷ ys) x m = go (t y) refl m (keep-mem ys x)
+  pub filter-mem : (xs : List A) (x : A) → List·Memᴰ x (filter t xs) → List·Memᴰ x xs × (t x ≡ true)
+  unfolding filter
+  filter-mem [] x m = absurd (List·Memᴰ·not-nil m)
+  filter-mem (y ∷ ys) x m = go (t y) refl m (filter-mem ys x)
     where
       further : List·Memᴰ x ys × (t x ≡ true) → List·Memᴰ x (y ∷ ys) × (t x ≡ true)
       further r = (List·Memᴰ·tail (r .0), r .1)
 
-      go : (b : Bool) → t y ≡ b → List·Memᴰ x (cond b (y ∷ keep t ys) (keep t ys)) → (List·Memᴰ x (keep t ys) → List·Memᴰ x ys × (t x ≡ true)) → List·Memᴰ x (y ∷ ys) × (t x ≡ true)
+      go : (b : Bool) → t y ≡ b → List·Memᴰ x (cond b (y ∷ filter t ys) (filter t ys)) → (List·Memᴰ x (filter t ys) → List·Memᴰ x ys × (t x ≡ true)) → List·Memᴰ x (y ∷ ys) × (t x ≡ true)
       go true e (List·Memᴰ·head q) f = (List·Memᴰ·head q, ap t q ∙ e)
       go true e (List·Memᴰ·tail i) f = further (f i)
       go false e i f = further (f i)
 
-  pub length-keep : (xs : List A) → length (keep t xs) ≤ length xs
-  unfolding keep
-  length-keep [] = omega arith
-  length-keep (x ∷ xs) = go (t x) (length-keep xs)
+  pub length-filter : (xs : List A) → length (filter t xs) ≤ length xs
+  unfolding filter
+  length-filter [] = omega arith
+  length-filter (x ∷ xs) = go (t x) (length-filter xs)
     where
-      go : (b : Bool) → length (keep t xs) ≤ length xs → length (cond b (x ∷ keep t xs) (keep t xs)) ≤ suc (length xs)
+      go : (b : Bool) → length (filter t xs) ≤ length xs → length (cond b (x ∷ filter t xs) (filter t xs)) ≤ suc (length xs)
       go true h = omega arith
       go false h = omega arith
 
-  pub keep-none : (xs : List A) → ((x : A) → List·Memᴰ x xs → t x ≡ false) → keep t xs ≡ []
-  unfolding keep
-  keep-none [] f = refl
-  keep-none (x ∷ xs) f = rw (f x (List·Memᴰ·head refl)) (keep-none xs (λ y m. f y (List·Memᴰ·tail m)))
+  pub filter-none : (xs : List A) → ((x : A) → List·Memᴰ x xs → t x ≡ false) → filter t xs ≡ []
+  unfolding filter
+  filter-none [] f = refl
+  filter-none (x ∷ xs) f = rw (f x (List·Memᴰ·head refl)) (filter-none xs (λ y m. f y (List·Memᴰ·tail m)))
 
-  pub keep-all : (xs : List A) → ((x : A) → List·Memᴰ x xs → t x ≡ true) → keep t xs ≡ xs
-  unfolding keep
-  keep-all [] f = refl
-  keep-all (x ∷ xs) f = rw (f x (List·Memᴰ·head refl)) (ap (λ (l : List A). x ∷ l) (keep-all xs (λ y m. f y (List·Memᴰ·tail m))))
+  pub filter-all : (xs : List A) → ((x : A) → List·Memᴰ x xs → t x ≡ true) → filter t xs ≡ xs
+  unfolding filter
+  filter-all [] f = refl
+  filter-all (x ∷ xs) f = rw (f x (List·Memᴰ·head refl)) (ap (λ (l : List A). x ∷ l) (filter-all xs (λ y m. f y (List·Memᴰ·tail m))))
 
-pub keep-same : {A : Type 0} (t u : A → Bool) (xs : List A) → ((x : A) → List·Memᴰ x xs → t x ≡ u x) → keep t xs ≡ keep u xs
-unfolding keep
-keep-same t u [] f = refl
-keep-same {A} t u (x ∷ xs) f = rw (f x (List·Memᴰ·head refl), keep-same t u xs (λ y m. f y (List·Memᴰ·tail m)))
+pub filter-same : {A : Type 0} (t u : A → Bool) (xs : List A) → ((x : A) → List·Memᴰ x xs → t x ≡ u x) → filter t xs ≡ filter u xs
+unfolding filter
+filter-same t u [] f = refl
+filter-same {A} t u (x ∷ xs) f = rw (f x (List·Memᴰ·head refl), filter-same t u xs (λ y m. f y (List·Memᴰ·tail m)))
 
-pub keep-map : {A B : Type 0} (t : B → Bool) (f : A → B) (xs : List A) → keep t (map f xs) ≡ map f (keep (λ x. t (f x)) xs)
-unfolding keep
-keep-map t f [] = refl
-keep-map {A} {B} t f (x ∷ xs) = go (t (f x)) (keep (λ y. t (f y)) xs) (keep-map t f xs)
+pub filter-map : {A B : Type 0} (t : B → Bool) (f : A → B) (xs : List A) → filter t (map f xs) ≡ map f (filter (λ x. t (f x)) xs)
+unfolding filter
+filter-map t f [] = refl
+filter-map {A} {B} t f (x ∷ xs) = go (t (f x)) (filter (λ y. t (f y)) xs) (filter-map t f xs)
   where
     go : (b : Bool) {ys : List B} (zs : List A) → ys ≡ map f zs → cond b (f x ∷ ys) ys ≡ map f (cond b (x ∷ zs) zs)
     go true zs e = ap (λ (l : List B). f x ∷ l) e
     go false zs e = e
 
-pub keep-keep : {A : Type 0} (t u : A → Bool) (xs : List A) → ((x : A) → List·Memᴰ x xs → t x ≡ true → u x ≡ true) → keep t (keep u xs) ≡ keep t xs
-unfolding keep
-keep-keep t u [] f = refl
-keep-keep {A} t u (x ∷ xs) f = go (u x) (f x (List·Memᴰ·head refl)) (keep-keep t u xs (λ y m. f y (List·Memᴰ·tail m)))
+pub filter-filter : {A : Type 0} (t u : A → Bool) (xs : List A) → ((x : A) → List·Memᴰ x xs → t x ≡ true → u x ≡ true) → filter t (filter u xs) ≡ filter t xs
+unfolding filter
+filter-filter t u [] f = refl
+filter-filter {A} t u (x ∷ xs) f = go (u x) (f x (List·Memᴰ·head refl)) (filter-filter t u xs (λ y m. f y (List·Memᴰ·tail m)))
   where
-    go : (b : Bool) → (t x ≡ true → b ≡ true) → keep t (keep u xs) ≡ keep t xs → keep t (cond b (x ∷ keep u xs) (keep u xs)) ≡ keep t (x ∷ xs)
+    go : (b : Bool) → (t x ≡ true → b ≡ true) → filter t (filter u xs) ≡ filter t xs → filter t (cond b (x ∷ filter u xs) (filter u xs)) ≡ filter t (x ∷ xs)
     go true h e = ap (λ (l : List A). cond (t x) (x ∷ l) l) e
     go false h e = rw (tests-agree (t x) false h (λ p. absurd (false≢true p))) e

@@ -1,5 +1,5 @@
 -- Tests of the elements of a list, and of the numbers below one.
---   keep t xs           those elements of xs that pass, in their order
+--   filter t xs           those elements of xs that pass, in their order
 --   every t xs          each passes
 --   any t xs            one passes
 --   each n t            each number below n passes
@@ -11,9 +11,9 @@ use mathlib.Core.List.{List, [], _∷_}
 use lib.Dec.{eqb}
 
 module _ {A : Type 0} (t : A → Bool) where
-  unfoldable pub keep : List A → List A
-  keep [] = []
-  keep (x ∷ xs) = cond (t x) (x ∷ keep xs) (keep xs)
+  unfoldable pub filter : List A → List A
+  filter [] = []
+  filter (x ∷ xs) = cond (t x) (x ∷ filter xs) (filter xs)
 
   unfoldable pub every : List A → Bool
   every [] = true

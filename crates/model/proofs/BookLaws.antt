@@ -24,7 +24,7 @@ use Rattle.model.specs.Refusal.{Cause, Step, firstFault, stepBy, refusin
 use Rattle.model.specs.Decide.{decidingOf, decisionOf, decideAmong}
 use Rattle.model.specs.Call.{Call, grant, revoke, list, decide, count}
 use Rattle.model.specs.Book.{Book, overlapping, bookGrant, bookRevoke, bookList, bookDecide, bookCount, bookStep}
-use Rattle.model.specs.Histories.{toldBy, after}
+use Rattle.model.specs.Histories.{responseOf, after}
 use Rattle.model.proofs.RefusalLaws.{accepted-done}
 use Rattle.model.proofs.Simulation.{Agrees, refusing-agrees}
 use Rattle.model.proofs.SoundLaws.{soundAnswer, refusing-sound}
@@ -67,20 +67,20 @@ bookStep-sound b (list q lent) = refusing-sound _ b lent _ refl refl
 bookStep-sound b (decide staff door quarter) = decideAmong-sound (overlapping (pointBox staff door quarter) (b .live))
 bookStep-sound b count = refl
 
-abbrev numberOf : Grant → ℕ
-numberOf g = g .number
+abbrev grantNumber : Grant → ℕ
+grantNumber g = g .number
 
 pub bookList-writes : (b : Book) (q : Box) (lent : List ℕ) (n : ℕ) → bookList b q lent .answer ≡ accepted (n ∷ [])
-    → take n (bookList b q lent .lent) ≡ map numberOf (overlapping q (b .live))
+    → take n (bookList b q lent .lent) ≡ map grantNumber (overlapping q (b .live))
 unfolding bookList overwrite
 bookList-writes b q lent n taken =
-    let numbers = map numberOf (overlapping q (b .live)) in
+    let numbers = map grantNumber (overlapping q (b .live)) in
     let done = accepted-done _ b lent _ (n ∷ []) taken in
     let count : length numbers ≡ n = cc in
     ap (λ (r : Step Book). take n (r .lent)) done ∙ take-at numbers _ n count
 
 module _ (b d : Book) where
-  pub bookList-same : (q : Box) (lent : List ℕ) → overlapping q (b .live) ≡ overlapping q (d .live) → toldBy (bookList b q lent) ≡ toldBy (bookList d q lent)
+  pub bookList-same : (q : Box) (lent : List ℕ) → overlapping q (b .live) ≡ overlapping q (d .live) → responseOf (bookList b q lent) ≡ responseOf (bookList d q lent)
   unfolding bookList
   bookList-same q lent same =
       let agrees : Agrees (λ (x y : Book). Unit {0}) (bookList b q lent) (bookList d q lent) =
@@ -88,6 +88,6 @@ module _ (b d : Book) where
       agrees .same
 
   pub bookDecide-same : (staff door quarter : ℕ) → overlapping (pointBox staff door quarter) (b .live) ≡ overlapping (pointBox staff door quarter) (d .live)
-      → toldBy (bookDecide b staff door quarter) ≡ toldBy (bookDecide d staff door quarter)
+      → responseOf (bookDecide b staff door quarter) ≡ responseOf (bookDecide d staff door quarter)
   unfolding bookDecide
   bookDecide-same staff door quarter same = rw same

@@ -6,7 +6,7 @@ use mathlib.Core.Logic.{_↔_}
 use mathlib.Core.Bool.{_&&_}
 use mathlib.Core.List.{List, List·Memᴰ}
 use lib.Dec.{T}
-use Rattle.lists.proofs.TestLaws.{T-iff, T-and, both-le, le-both, mem-keep, keep-mem}
+use Rattle.lists.proofs.TestLaws.{T-iff, T-and, both-le, le-both, mem-filter, filter-mem}
 use Rattle.model.specs.declared.Box.{Box}
 use Rattle.model.specs.declared.Grant.{Grant}
 use Rattle.model.specs.Interval.{Interval}
@@ -36,6 +36,6 @@ pub overlapping-iff : (q : Box) (gs : List Grant) (g : Grant) → List·Memᴰ g
 overlapping-iff q gs g =
     let test = T-iff (overlaps (g .bounds) q) in
     let same = overlaps-iff (g .bounds) q in (
-      (λ m. let kept = keep-mem (λ h. overlaps (h .bounds) q) gs g m in (kept .0, same .0 (test .1 (kept .1)))),
-      (λ h. mem-keep (λ h. overlaps (h .bounds) q) gs g (h .0) (test .0 (same .1 (h .1)))),
+      (λ m. let kept = filter-mem (λ h. overlaps (h .bounds) q) gs g m in (kept .0, same .0 (test .1 (kept .1)))),
+      (λ h. mem-filter (λ h. overlaps (h .bounds) q) gs g (h .0) (test .0 (same .1 (h .1)))),
     )

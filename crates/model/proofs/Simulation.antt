@@ -1,8 +1,8 @@
 -- From one call to a list of calls: a relation that each call keeps gives equal answers over every list (specs/Histories).
---   Agrees R x y        the steps x and y are told the same, and leave states that R relates
+--   Agrees R x y        the steps x and y are responses the same, and leave states that R relates
 --   refusing-agrees     two calls whose first fault is the same agree, if they do where neither is refused
 --   accepting-agrees    a call that meets no fault agrees with what its step, accepted, agrees with
---   calls-refine        two machines whose calls agree are told the same by every list of calls, and end in related states
+--   calls-refine        two machines whose calls agree are responses the same by every list of calls, and end in related states
 -- Assumes nothing: that each call keeps R is a parameter.
 use Prim.Native.Nat.{ℕ}
 use mathlib.Core.Path.{_≡_, refl, ap₂}
@@ -11,10 +11,10 @@ use mathlib.Core.Option.{Option, none, some}
 use Rattle.model.specs.declared.Fault.{Fault}
 use Rattle.model.specs.Refusal.{Cause, Step, firstFault, stepBy, refusing}
 use Rattle.model.specs.Call.{Call}
-use Rattle.model.specs.Histories.{Told, toldBy, told, after}
+use Rattle.model.specs.Histories.{Response, responseOf, responses, after}
 
 pub record Agrees {W S : Type 0} (R : W → S → Type 0) (x : Step W) (y : Step S) : Type 0 where
-  pub same : toldBy x ≡ toldBy y
+  pub same : responseOf x ≡ responseOf y
   pub related : R (x .state) (y .state)
 
 pub refusing-agrees : {W S : Type 0} (R : W → S → Type 0) {w : W} {s : S} (cs ds : List Cause) (lent : List ℕ) (x : Step W) (y : Step S) → R w s
@@ -34,10 +34,10 @@ accepting-agrees R cs w lent x y e a = rw e a
 module _ {W S : Type 0} (concrete : W → Call → Step W) (model : S → Call → Step S) (R : W → S → Type 0) (Fits : Call → Type 0)
     (call-refines : (w : W) (s : S) (c : Call) → Fits c → R w s → Agrees R (concrete w c) (model s c)) where
   pub calls-refine : (w : W) (s : S) (cs : List Call) → ((c : Call) → List·Memᴰ c cs → Fits c) → R w s
-      → (told concrete w cs ≡ told model s cs) × R (after concrete w cs) (after model s cs)
-  unfolding told after
+      → (responses concrete w cs ≡ responses model s cs) × R (after concrete w cs) (after model s cs)
+  unfolding responses after
   calls-refine w s [] fit r = (refl, r)
   calls-refine w s (c ∷ cs) fit r =
       let a = call-refines w s c (fit c (List·Memᴰ·head refl)) r in
       let rest = calls-refine (concrete w c .state) (model s c .state) cs (λ d m. fit d (List·Memᴰ·tail m)) (a .related) in
-      (ap₂ (λ (x : Told) (xs : List Told). x ∷ xs) (a .same) (rest .0), rest .1)
+      (ap₂ (λ (x : Response) (xs : List Response). x ∷ xs) (a .same) (rest .0), rest .1)

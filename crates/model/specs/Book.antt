@@ -8,7 +8,7 @@ use mathlib.Core.Bool.{Bool, not}
 use mathlib.Core.List.{List, [], _∷_, map}
 use lib.Dec.{ltb, eqb}
 use lib.ListN.{length}
-use Rattle.lists.specs.Tests.{keep, any}
+use Rattle.lists.specs.Tests.{filter, any}
 use Rattle.lists.specs.Overwrite.{overwrite}
 use Rattle.lists.specs.Sort.{insertBy}
 use Rattle.model.specs.declared.Box.{Box}
@@ -37,7 +37,7 @@ isLive b n = any (λ g. eqb (g .number) n) (b .live)
 
 -- the live grants that overlap a box
 abbrev pub overlapping : Box → List Grant → List Grant
-overlapping q gs = keep (λ g. overlaps (g .bounds) q) gs
+overlapping q gs = filter (λ g. overlaps (g .bounds) q) gs
 
 unfoldable pub bookGrant : Book → Request → Step Book
 bookGrant b r =
@@ -58,7 +58,7 @@ bookRevoke b n =
     ∷ NotLive if not (isLive b n)
     ∷ [])
     b []
-    (record { state = withLive b (keep (λ g. not (eqb (g .number) n)) (b .live)); answer = accepted []; lent = [] })
+    (record { state = withLive b (filter (λ g. not (eqb (g .number) n)) (b .live)); answer = accepted []; lent = [] })
 
 unfoldable pub bookList : Book → Box → List ℕ → Step Book
 bookList b q lent =

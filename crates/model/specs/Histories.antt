@@ -1,6 +1,6 @@
 -- Lists of calls, over any state (document 01, "The plain book": each call gets the pool that the one before left).
---   Told            document 01's answer in demand 3: what the call returns, with the lent list after it
---   told step s cs  what a list of calls is told, from the state s on
+--   Response            document 01's answer in demand 3: what the call returns, with the lent list after it
+--   responses step s cs  what a list of calls is responses, from the state s on
 --   after step s cs the state after it
 -- Assumes nothing: these are definitions.
 use Prim.Native.Nat.{ℕ}
@@ -9,17 +9,17 @@ use Rattle.model.specs.Answer.{Answer}
 use Rattle.model.specs.Refusal.{Step}
 use Rattle.model.specs.Call.{Call}
 
-pub record Told : Type 0 where
+pub record Response : Type 0 where
   pub answer : Answer
   pub lent : List ℕ
 
-abbrev pub toldBy : {S : Type 0} → Step S → Told
-toldBy r = record { answer = r .answer; lent = r .lent }
+abbrev pub responseOf : {S : Type 0} → Step S → Response
+responseOf r = record { answer = r .answer; lent = r .lent }
 
 module _ {S : Type 0} (step : S → Call → Step S) where
-  unfoldable pub told : S → List Call → List Told
-  told s [] = []
-  told s (c ∷ cs) = toldBy (step s c) ∷ told (step s c .state) cs
+  unfoldable pub responses : S → List Call → List Response
+  responses s [] = []
+  responses s (c ∷ cs) = responseOf (step s c) ∷ responses (step s c .state) cs
 
   unfoldable pub after : S → List Call → S
   after s [] = s

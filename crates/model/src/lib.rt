@@ -3,6 +3,7 @@
 
 pub mod bounds;
 pub mod decide;
+pub mod faults;
 pub mod kinds;
 pub mod same;
 

@@ -15,8 +15,8 @@ use Rattle.pool.specs.Cell.{grantAt}
 use Rattle.index.specs.Hits.{CellsAt}
 use Rattle.file_calls.specs.WriteKeys.{numberIn}
 use Rattle.file_calls.proofs.SortedCellLaws.{grants-sorted}
-use Rattle.standing.specs.declared.Standing.{Standing}
-use Rattle.standing.specs.Standing.{standing}
+use Rattle.precedence.specs.declared.Precedence.{Precedence}
+use Rattle.precedence.specs.Precedence.{precedence}
 use Rattle.panel.specs.declared.touching.Touching.{Touching}
 use Rattle.panel.specs.declared.touching.Touching.the-variants.{Is, End}
 use Rattle.panel.specs.Touching.{placedAmong, placed}
@@ -28,7 +28,7 @@ past all f (k ∷ ks) zero end = absurd (omega arith)
 past all f (k ∷ ks) (suc i) end = past all f ks i (omega arith)
 
 within : (all : List Grant) (f : ℕ → Grant) (ks : List ℕ) (i : ℕ) → i < length ks
-    → placedAmong all (map f ks) i ≡ Is (f (getD ks i 0)) (standing all (f (getD ks i 0)))
+    → placedAmong all (map f ks) i ≡ Is (f (getD ks i 0)) (precedence all (f (getD ks i 0)))
 unfolding placedAmong
 within all f [] i lt = absurd (omega arith)
 within all f (k ∷ ks) zero lt = refl
@@ -44,12 +44,12 @@ module _ (w hits : List ℕ) {n : ℕ} (cells : CellsAt w hits n) (i : ℕ) wher
   pub placed-end : n ≤ i → End ≡ placed grants i
   placed-end end = sym (past grants (grantAt w) (take n hits) i (omega (arith, many)))
 
-  pub placed-at : i < n → {k : ℕ} {g : Grant} {s : Standing} → k ≡ getD hits i 0 → g ≡ grantAt w k → s ≡ standing grants g → Is g s ≡ placed grants i
+  pub placed-at : i < n → {k : ℕ} {g : Grant} {s : Precedence} → k ≡ getD hits i 0 → g ≡ grantAt w k → s ≡ precedence grants g → Is g s ≡ placed grants i
   placed-at lt {k} {g} {s} at e stands =
       let cell : getD (take n hits) i 0 ≡ k = getD-take n hits i 0 lt ∙ sym at in
-      let whole : Is g s ≡ Is g (standing grants g) = ap (λ (x : Standing). Is g x) stands in
-      let row : Is (grantAt w (getD (take n hits) i 0)) (standing grants (grantAt w (getD (take n hits) i 0))) ≡ Is g (standing grants g) =
-      ap (λ (h : Grant). Is h (standing grants h)) (ap (grantAt w) cell ∙ sym e) in
+      let whole : Is g s ≡ Is g (precedence grants g) = ap (λ (x : Precedence). Is g x) stands in
+      let row : Is (grantAt w (getD (take n hits) i 0)) (precedence grants (grantAt w (getD (take n hits) i 0))) ≡ Is g (precedence grants g) =
+      ap (λ (h : Grant). Is h (precedence grants h)) (ap (grantAt w) cell ∙ sym e) in
       whole ∙ sym row ∙ sym (within grants (grantAt w) (take n hits) i (omega (arith, many)))
 
 pub placed-sorted : (w hits cells : List ℕ) (n i : ℕ) {t : Touching} → take n cells ≡ sortBy (numberIn w) (take n hits)

@@ -8,13 +8,13 @@ use mathlib.Core.Path.{_≡_, refl}
 use mathlib.Core.List.{List, []}
 use Rattle.model.specs.declared.Kind.the-variants.{Opens}
 use Rattle.model.specs.declared.Grant.{Grant}
-use Rattle.slip_text.specs.Ascii.{ascii}
-use Rattle.slip_text.specs.Numeral.{numeral, digitsBy}
-use Rattle.standing.specs.declared.Standing.the-variants.{Whole, Partly, Nowhere}
+use Rattle.text.specs.Ascii.{ascii}
+use Rattle.text.specs.Numeral.{numeral, digitsBy}
+use Rattle.precedence.specs.declared.Precedence.the-variants.{Whole, Partial, None}
 use Rattle.calendar.specs.Calendar.{leapYear, monthDays, nextDay, dateAfter}
 use Rattle.calendar.specs.declared.Base.{Base}
 use Rattle.calendar.specs.declared.Base.the-variants.{Unknown, Day}
-use Rattle.panel.specs.Columns.{aligned, columns}
+use Rattle.text.specs.Columns.{aligned, columns}
 use Rattle.panel.specs.Rows.{shownBase, grantRow, touchingRow, momentNote, timesRow}
 
 abbrev on : ℕ → Base
@@ -43,8 +43,8 @@ Reads t s = t ≡ ascii s
 
 pub row-cases : Reads (grantRow (seven 63)) "       7      10     100     199      12      12      32      63  opens\n"
     × Reads (touchingRow (seven 63) Whole (on 2027)) "       7      10     100     199      63  2027-03-01 16:00  opens\n"
-    × Reads (touchingRow (seven 65535) Partly (on 2027)) "       7      10     100     199   65535  2029-01-11 16:00  opens, in part\n"
-    × Reads (touchingRow (seven 63) Nowhere Unknown) "       7      10     100     199      63  -                 opens, OVERRIDDEN\n"
+    × Reads (touchingRow (seven 65535) Partial (on 2027)) "       7      10     100     199   65535  2029-01-11 16:00  opens, in part\n"
+    × Reads (touchingRow (seven 63) None Unknown) "       7      10     100     199      63  -                 opens, OVERRIDDEN\n"
 unfolding shownBase aligned columns numeral digitsBy dateAfter nextDay monthDays leapYear
 row-cases = (refl, refl, refl, refl)
 

@@ -2,16 +2,14 @@
 --   shown-none, shown-day, shown-late    no day, a day of a year of four digits, and of a later one
 --   shown-year               a base day that is shown has a year of four digits
 --   shown-is                 a text of what is shown is the text of the base day
---   put-as                   a text that was put, in another form
 -- Assumes nothing.
 use Prim.Native.Nat.{ℕ, _<_, _≤_}
-use mathlib.Core.Path.{_≡_, refl, sym, ap, subst, _∙_}
+use mathlib.Core.Path.{_≡_, refl, sym, ap, _∙_}
 use mathlib.Core.Bool.{Bool, true, false, cond}
 use mathlib.Core.List.{List}
 use native.Mathlib.Omega.{arith}
 use borrow.Author.Tests.{leb-true, le-leb, lt-leb}
 use lib.Dec.{leb}
-use Rattle.slip_text.specs.Put.{Put}
 use Rattle.calendar.specs.declared.Date.{Date}
 use Rattle.calendar.specs.Calendar.{lastYear}
 use Rattle.calendar.specs.declared.Base.{Base}
@@ -50,6 +48,3 @@ module _ (b : Base) {s : Base} (e : s ≡ shownBase b) where
 
   pub shown-is : (text : Base → List ℕ) {x : Base} → s ≡ x → text x ≡ text (shownBase b)
   shown-is text known = ap text (sym known ∙ e)
-
-pub put-as : {l m t u : List ℕ} {a r : ℕ} → t ≡ u → Put l a t r m → Put l a u r m
-put-as {l} {m} {a = a} {r = r} e p = subst (λ (x : List ℕ). Put l a x r m) e p

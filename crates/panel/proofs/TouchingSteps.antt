@@ -18,7 +18,7 @@ use Rattle.pool.specs.Cell.{grantAt}
 use Rattle.index.specs.declared.hits.Hits.{Hits}
 use Rattle.index.specs.declared.hits.Hits.the-variants.{Broken, Found}
 use Rattle.index.specs.Hits.{HitsFound}
-use Rattle.index.specs.Order.{lookOrder}
+use Rattle.calls.specs.Order.{lookOrder}
 use Rattle.index.proofs.HitsLaws.{broken-search, found-hits}
 use Rattle.index.proofs.RefusalSteps.{pool-refused, pool-taken}
 use Rattle.panel.specs.declared.touching.Touching.{Touching}

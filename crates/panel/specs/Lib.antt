@@ -1,5 +1,3 @@
 -- What the attendant's panel shows of a bank in memory.
 pub mod Touching
-pub mod Claim
-pub mod Columns
 pub mod Rows

@@ -1,6 +1,6 @@
 -- A grant as a line of a table, and the days and times that the panel shows.
 --   grantRow g                    number, rank, staff, doors and quarters, then `opens` or `bars`
---   touchingRow g standing base   number, rank, staff and last quarter, when the grant ends, `opens` or `bars`, then how far it stands
+--   touchingRow g precedence base   number, rank, staff and last quarter, when the grant ends, `opens` or `bars`, then how far it stands
 --   momentNote base q             the day and time at which a quarter starts, to stand behind its number
 --   timesRow g base               from when until when the grant holds
 --   shownBase base                the base day that these count from: one of a year above 9999, which has no four digits, counts as unknown
@@ -14,15 +14,15 @@ use Rattle.model.specs.declared.Kind.{Kind}
 use Rattle.model.specs.declared.Kind.the-variants.{Bars, Opens}
 use Rattle.model.specs.declared.Grant.{Grant}
 use Rattle.model.specs.Box.{boxValues}
-use Rattle.slip_text.specs.Ascii.{ascii}
-use Rattle.slip_text.specs.Text.{line}
-use Rattle.standing.specs.declared.Standing.{Standing}
-use Rattle.standing.specs.declared.Standing.the-variants.{Whole, Partly, Nowhere}
+use Rattle.text.specs.Ascii.{ascii}
+use Rattle.text.specs.Ascii.{line}
+use Rattle.precedence.specs.declared.Precedence.{Precedence}
+use Rattle.precedence.specs.declared.Precedence.the-variants.{Whole, Partial, None}
 use Rattle.calendar.specs.Calendar.{lastYear}
 use Rattle.calendar.specs.Moment.{momentText}
 use Rattle.calendar.specs.declared.Base.{Base}
 use Rattle.calendar.specs.declared.Base.the-variants.{Unknown, Day}
-use Rattle.panel.specs.Columns.{columns}
+use Rattle.text.specs.Columns.{columns}
 
 unfoldable pub shownBase : Base → Base
 shownBase Unknown = Unknown
@@ -35,10 +35,10 @@ abbrev pub kindText : Kind → List ℕ
 kindText Bars = ascii "bars"
 kindText Opens = ascii "opens"
 
-abbrev pub standingText : Standing → List ℕ
-standingText Whole = []
-standingText Partly = ascii ", in part"
-standingText Nowhere = ascii ", OVERRIDDEN"
+abbrev pub precedenceText : Precedence → List ℕ
+precedenceText Whole = []
+precedenceText Partial = ascii ", in part"
+precedenceText None = ascii ", OVERRIDDEN"
 
 -- a quarter's day and time in a column of its own, once it is known which base day is shown
 abbrev pub momentColumn : Base → ℕ → List ℕ
@@ -56,8 +56,8 @@ timesFrom (Day d) g = line (ascii "from " ++ momentText d (g .bounds .«quarter_
 abbrev pub grantRow : Grant → List ℕ
 grantRow g = line (columns (g .number ∷ g .rank ∷ boxValues (g .bounds)) ++ ascii "  " ++ kindText (g .kind))
 
-abbrev pub touchingRow : Grant → Standing → Base → List ℕ
-touchingRow g standing base =
+abbrev pub touchingRow : Grant → Precedence → Base → List ℕ
+touchingRow g precedence base =
     let b = g .bounds in
     line
     (columns (g .number ∷ g .rank ∷ b .«staff_from» ∷ b .«staff_to» ∷ b .«quarter_to» ∷ [])
@@ -65,7 +65,7 @@ touchingRow g standing base =
     ++ momentColumn (shownBase base) (endOf g)
     ++ ascii "  "
     ++ kindText (g .kind)
-    ++ standingText standing)
+    ++ precedenceText precedence)
 
 abbrev pub momentNote : Base → ℕ → List ℕ
 momentNote base q = noteAfter (shownBase base) q

@@ -1,7 +1,7 @@
 -- Who may open a door at a quarter: the grants that touch both, ascending by number, each with how far it stands among them.
 --   doorBox door quarter           the box that is searched: the door, the quarter, every staff number
 --   grantsTouching w door quarter  the grants in the cells that the search hits, ascending by number; on a scrambled pool with repetition
---   placed gs i                    the i-th of them, from 0, with its standing among them all (standing/specs/Standing); End past the last
+--   placed gs i                    the i-th of them, from 0, with its precedence among them all (precedence/specs/Precedence); End past the last
 --   touchingAt w door quarter i    that, or the first fault of decide's order line (index/specs/Order) that holds
 -- What they are in the plain book is said in Claim. Assumes nothing: these are definitions.
 use Prim.Native.Nat.{ℕ, zero, suc}
@@ -12,9 +12,9 @@ use Rattle.model.specs.declared.Box.{Box}
 use Rattle.model.specs.declared.Grant.{Grant}
 use Rattle.model.specs.declared.Fault.{Fault}
 use Rattle.model.specs.Refusal.{firstFault}
-use Rattle.index.specs.Walks.{boxSearch, isBroken, grantsHit}
-use Rattle.index.specs.Order.{lookOrder}
-use Rattle.standing.specs.Standing.{standing}
+use Rattle.calls.specs.Walks.{boxSearch, isBroken, grantsHit}
+use Rattle.calls.specs.Order.{lookOrder}
+use Rattle.precedence.specs.Precedence.{precedence}
 use Rattle.panel.specs.declared.touching.Touching.{Touching}
 use Rattle.panel.specs.declared.touching.Touching.the-variants.{Is, End, Refused}
 
@@ -32,10 +32,10 @@ doorBox door quarter =
 abbrev pub grantsTouching : List ℕ → ℕ → ℕ → List Grant
 grantsTouching w door quarter = sortBy (λ g. g .number) (grantsHit w (boxSearch w (doorBox door quarter)))
 
--- the i-th of some grants, with its standing among all
+-- the i-th of some grants, with its precedence among all
 unfoldable pub placedAmong : List Grant → List Grant → ℕ → Touching
 placedAmong all [] i = End
-placedAmong all (g ∷ gs) zero = Is g (standing all g)
+placedAmong all (g ∷ gs) zero = Is g (precedence all g)
 placedAmong all (g ∷ gs) (suc i) = placedAmong all gs i
 
 abbrev pub placed : List Grant → ℕ → Touching

@@ -4,20 +4,20 @@ ghost use mathlib.Core.Path.{_≡_};
 ghost use Prim.Native.Nat.{_+_, _≤_};
 ghost use lib.ListN.{length, take};
 ghost use Rattle.model.specs.Values.{wordValues};
-ghost use Rattle.slip_text.specs.Put.{Put, Counts};
+ghost use Rattle.text.specs.Put.{Put, Counts};
 ghost use Rattle.calendar.specs.Calendar.{lastYear};
 ghost use Rattle.calendar.specs.Moment.{momentBytes};
-ghost use Rattle.panel.specs.Rows.{shownBase, kindText, standingText, momentColumn, noteAfter, timesFrom, grantRow, touchingRow, momentNote, timesRow};
-use crate::columns::put_columns;
+ghost use Rattle.panel.specs.Rows.{shownBase, kindText, precedenceText, momentColumn, noteAfter, timesFrom, grantRow, touchingRow, momentNote, timesRow};
 use calendar::Base;
 use calendar::Date;
 use calendar::moment::put_moment;
 use model::Grant;
 use model::Kind;
 use pool::layout::wide;
-use slip_text::printing::put_byte;
-use slip_text::printing::put_text;
-use standing::Standing;
+use precedence::Precedence;
+use text::columns::put_columns;
+use text::put::put_byte;
+use text::put::put_text;
 
 // Room for the longest row.
 pub const ROW_BYTES: usize = 192;
@@ -54,14 +54,14 @@ fn put_kind(out: &mut [u8], at: usize, kind: Kind) -> usize
     }
 }
 
-fn put_standing(out: &mut [u8], at: usize, standing: Standing) -> usize
+fn put_precedence(out: &mut [u8], at: usize, precedence: Precedence) -> usize
     requires { ⌜ at + 64 ≤ length (now out) ⌝ }
-    ensures { λ r. ⌜ Put (now (out .entry)) at (standingText standing) r (now (out .exit)) × (r ≤ at + 64) ⌝ }
+    ensures { λ r. ⌜ Put (now (out .entry)) at (precedenceText precedence) r (now (out .exit)) × (r ≤ at + 64) ⌝ }
 {
-    match standing {
-        Standing::Whole => at,
-        Standing::Partly => put_text(out, at, b", in part"),
-        Standing::Nowhere => put_text(out, at, b", OVERRIDDEN"),
+    match precedence {
+        Precedence::Whole => at,
+        Precedence::Partial => put_text(out, at, b", in part"),
+        Precedence::None => put_text(out, at, b", OVERRIDDEN"),
     }
 }
 
@@ -101,8 +101,13 @@ pub fn grant_row(g: Grant, out: &mut [u8; ROW_BYTES]) -> usize
 }
 
 // A grant in the table of those that touch a door and a quarter: who may open it, until when, and how far that stands.
-pub fn touching_row(g: Grant, standing: Standing, base: Base, out: &mut [u8; ROW_BYTES]) -> usize
-    ensures { λ r. ⌜ take r (now (out .exit)) ≡ touchingRow g standing base ⌝ }
+pub fn touching_row(
+    g: Grant,
+    precedence: Precedence,
+    base: Base,
+    out: &mut [u8; ROW_BYTES],
+) -> usize
+    ensures { λ r. ⌜ take r (now (out .exit)) ≡ touchingRow g precedence base ⌝ }
     ensures { λ r. ⌜ Counts r (now (out .exit)) ⌝ }
 {
     let b = g.bounds;
@@ -119,7 +124,7 @@ pub fn touching_row(g: Grant, standing: Standing, base: Base, out: &mut [u8; ROW
     let next = put_moment_column(out, until, base, quarter_after(b.quarter_to));
     let word = put_text(out, next, b"  ");
     let but = put_kind(out, word, kind);
-    let end = put_standing(out, but, standing);
+    let end = put_precedence(out, but, precedence);
     put_byte(out, end, b'\n')
 }
 

@@ -20,11 +20,14 @@ use pool::cell::grant_at;
 use pool::layout::MAX_CAPACITY;
 use pool::layout::capacity;
 use pool::layout::wide;
-use standing::Standing;
-use standing::overriding::standing_among;
+use precedence::Precedence;
+use precedence::overriding::precedence_among;
 
 pub enum Touching {
-    Is { grant: Grant, standing: Standing },
+    Is {
+        grant: Grant,
+        precedence: Precedence,
+    },
     End,
     Refused(Fault),
 }
@@ -52,8 +55,8 @@ fn placed(pool: &[u16], hits: &HitCells, found: usize, i: usize) -> Touching
         return Touching::End;
     }
     let grant = grant_at(pool, wide(hits[i]));
-    let standing = standing_among(pool, hits, found, grant);
-    Touching::Is { grant, standing }
+    let precedence = precedence_among(pool, hits, found, grant);
+    Touching::Is { grant, precedence }
 }
 
 // The same, of the hits' cells in the order of their grants' numbers.

@@ -1,4 +1,4 @@
-// What a cell carries: read whole as a grant, stored whole as a node without sons or as a free cell.
+// What a cell carries: read whole as a grant, stored whole as a node without children or as a free cell.
 ghost use mathlib.Core.Path.{_≡_};
 ghost use Prim.Native.Nat.{_<_, _≤_};
 ghost use lib.ListN.{length};
@@ -57,7 +57,7 @@ fn store_cell(pool: &mut [u16], cell: usize, words: [u16; 10])
     }
 }
 
-// Stores a grant as a node without sons.
+// Stores a grant as a node without children.
 pub fn store_grant(pool: &mut [u16], cell: usize, g: Grant)
     requires { ⌜ (0 < cell) × (cell ≤ maxGrants) × (poolLength cell ≤ length (now pool)) ⌝ }
     ensures { λ r. ⌜ now (pool .exit) ≡ withCell (now (pool .entry)) cell (cellOf 0 0 g) ⌝ }

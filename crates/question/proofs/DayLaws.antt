@@ -15,7 +15,7 @@ use Rattle.calendar.specs.Calendar.{lastYear, leapYear, monthDays, isDate}
 use Rattle.calendar.specs.Moment.{dash, dateBytes}
 use Rattle.question.specs.declared.Number.the-variants as number
 use Rattle.question.specs.declared.Day.the-variants as day
-use Rattle.question.specs.Number.{numberOf}
+use Rattle.question.specs.Number.{typedNumber}
 use Rattle.question.specs.Day.{part, dayForm, dateOf, dayIn}
 
 pub month-high : (y m d : ℕ) → 12 < m → day.Bad ≡ dateOf y m d
@@ -57,20 +57,20 @@ module _ (bs : List ℕ) (f : dayForm bs ≡ true) where
       let b = eqb (getD bs 4 0) dash in
       eqb-true (length bs) dateBytes (and-eq-true-iff a b .0 (and-eq-true-iff (a && b) (eqb (getD bs 7 0) dash) .0 f .0) .0)
 
-  pub day-no-year : numberOf (part 0 4 bs) ≡ number.Bad → day.Bad ≡ dayIn bs
+  pub day-no-year : typedNumber (part 0 4 bs) ≡ number.Bad → day.Bad ≡ dayIn bs
   unfolding dayIn
   day-no-year e = rw (f, e)
 
-  module _ (y : ℕ) (year : numberOf (part 0 4 bs) ≡ number.Value y) where
-    pub day-no-month : numberOf (part 5 2 bs) ≡ number.Bad → day.Bad ≡ dayIn bs
+  module _ (y : ℕ) (year : typedNumber (part 0 4 bs) ≡ number.Value y) where
+    pub day-no-month : typedNumber (part 5 2 bs) ≡ number.Bad → day.Bad ≡ dayIn bs
     unfolding dayIn
     day-no-month e = rw (f, year, e)
 
-    module _ (m : ℕ) (month : numberOf (part 5 2 bs) ≡ number.Value m) where
-      pub day-no-day : numberOf (part 8 2 bs) ≡ number.Bad → day.Bad ≡ dayIn bs
+    module _ (m : ℕ) (month : typedNumber (part 5 2 bs) ≡ number.Value m) where
+      pub day-no-day : typedNumber (part 8 2 bs) ≡ number.Bad → day.Bad ≡ dayIn bs
       unfolding dayIn
       day-no-day e = rw (f, year, month, e)
 
-      pub day-read : (d : ℕ) → numberOf (part 8 2 bs) ≡ number.Value d → dateOf y m d ≡ dayIn bs
+      pub day-read : (d : ℕ) → typedNumber (part 8 2 bs) ≡ number.Value d → dateOf y m d ≡ dayIn bs
       unfolding dayIn
       day-read d e = rw (f, year, month, e)

@@ -18,7 +18,7 @@ use Rattle.question.specs.declared.Number.the-variants as number
 use Rattle.question.specs.declared.Day.{Day}
 use Rattle.question.specs.declared.Day.the-variants as day
 use Rattle.question.specs.declared.Quarter.the-variants as quarter
-use Rattle.question.specs.Number.{numberOf}
+use Rattle.question.specs.Number.{typedNumber}
 use Rattle.question.specs.Day.{part, dayIn}
 use Rattle.question.specs.Quarter.{momentForm, sameDate, daysFrom, daysSince, daysLimit, lastQuarter, quarterAt, timeOf, quarterBy, quarterOf}
 
@@ -26,8 +26,8 @@ pub record IsMoment (base : Date) (q : ℕ) (bs : List ℕ) : Type 0 where
   pub minute : ℕ
   pub has-form : momentForm bs ≡ true
   pub is-day : dayIn (part 0 10 bs) ≡ day.Is (dateAfter base (dayOf q))
-  pub is-hour : numberOf (part 11 2 bs) ≡ number.Value (hourOf q)
-  pub is-minute : numberOf (part 14 2 bs) ≡ number.Value minute
+  pub is-hour : typedNumber (part 11 2 bs) ≡ number.Value (hourOf q)
+  pub is-minute : typedNumber (part 14 2 bs) ≡ number.Value minute
   pub in-hour : minute ≤ 59
   pub rounded-down : minuteOf q ≡ minute / 15 * 15
 
@@ -112,10 +112,10 @@ timed base to h m q e = by-test (leb h 23 && leb m 59) refl e
 pub quarter-moment : (base : Date) (bs : List ℕ) (q : ℕ) → quarterOf base bs ≡ quarter.Is q → IsMoment base q bs
 unfolding quarterOf
 quarter-moment base bs q e =
-    go (isDate (base .year) (base .month) (base .day) && momentForm bs) refl (dayIn (part 0 10 bs)) refl (numberOf (part 11 2 bs)) refl (numberOf (part 14 2 bs)) refl e
+    go (isDate (base .year) (base .month) (base .day) && momentForm bs) refl (dayIn (part 0 10 bs)) refl (typedNumber (part 11 2 bs)) refl (typedNumber (part 14 2 bs)) refl e
   where
     go : (t : Bool) → (isDate (base .year) (base .month) (base .day) && momentForm bs) ≡ t → (o : Day) → dayIn (part 0 10 bs) ≡ o
-        → (h : Number) → numberOf (part 11 2 bs) ≡ h → (m : Number) → numberOf (part 14 2 bs) ≡ m
+        → (h : Number) → typedNumber (part 11 2 bs) ≡ h → (m : Number) → typedNumber (part 14 2 bs) ≡ m
         → cond t (quarterBy base o h m) quarter.Bad ≡ quarter.Is q → IsMoment base q bs
     go false s o x h y m z p = absurd (no-quarter p)
     go true s day.Bad x h y m z p = absurd (no-quarter p)

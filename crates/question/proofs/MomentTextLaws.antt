@@ -16,15 +16,15 @@ use lib.ListN.{length, getD, drop, take-append-drop, length-drop}
 use lib.Seq.{drop-cons, drop-drop, take-all, length-take-le}
 use Rattle.lists.specs.Tests.{every}
 use Rattle.model.specs.Values.{wordValues}
-use Rattle.slip_text.specs.Ascii.{blank}
-use Rattle.slip_text.specs.Decimal.{zeroDigit, nineDigit, isDigit, isNumber, valueAfter, decimal}
+use Rattle.text.specs.Ascii.{blank}
+use Rattle.text.specs.Decimal.{zeroDigit, nineDigit, isDigit, isNumber, valueAfter, decimal}
 use Rattle.calendar.specs.declared.Date.{Date}
 use Rattle.calendar.specs.Calendar.{isDate, dateAfter, dayOf, hourOf, minuteOf}
 use Rattle.calendar.specs.Moment.{twoDigits, dash, colon, dateText, momentText, dateBytes, momentBytes}
 use Rattle.question.specs.declared.Number.{Number}
 use Rattle.question.specs.declared.Number.the-variants as number
 use Rattle.question.specs.declared.Day.the-variants as day
-use Rattle.question.specs.Number.{numberBy, numberOf}
+use Rattle.question.specs.Number.{numberBy, typedNumber}
 use Rattle.question.specs.Day.{part, dayForm, dateOf, dayBy, dayIn}
 use Rattle.question.specs.Quarter.{momentForm}
 use Rattle.question.proofs.MomentLaws.{IsMoment}
@@ -38,8 +38,8 @@ no-number e = let z : _≡_ {A = ℕ} 0 1 = cc in omega arith
 no-day : {d : Date} → day.Bad ≡ day.Is d → ⊥
 no-day e = let z : _≡_ {A = ℕ} 0 1 = cc in omega arith
 
-number-digits : (bs : List ℕ) (v : ℕ) → numberOf bs ≡ number.Value v → (isNumber bs ≡ true) × (valueAfter 0 bs ≡ v)
-unfolding numberOf decimal
+number-digits : (bs : List ℕ) (v : ℕ) → typedNumber bs ≡ number.Value v → (isNumber bs ≡ true) × (valueAfter 0 bs ≡ v)
+unfolding typedNumber decimal
 number-digits bs v e = by-tests (isNumber bs) (ltb (valueAfter 0 bs) wordValues) refl e
   where
     by-tests : (s t : Bool) → isNumber bs ≡ s → numberBy (cond (s && t) (some (valueAfter 0 bs)) none) ≡ number.Value v
@@ -64,7 +64,7 @@ digits-cons b bs e =
 same-two : {a b c d : ℕ} → a ≡ c → b ≡ d → _≡_ {A = List ℕ} (a ∷ b ∷ []) (c ∷ d ∷ [])
 same-two p q = cc
 
-pub two-digits-read : (bs : List ℕ) (v : ℕ) → length bs ≡ 2 → numberOf bs ≡ number.Value v → bs ≡ twoDigits v
+pub two-digits-read : (bs : List ℕ) (v : ℕ) → length bs ≡ 2 → typedNumber bs ≡ number.Value v → bs ≡ twoDigits v
 unfolding isNumber valueAfter
 two-digits-read [] v h e = absurd (omega arith)
 two-digits-read (a ∷ []) v h e = absurd (omega arith)
@@ -78,7 +78,7 @@ two-digits-read (a ∷ (b ∷ [])) v h e =
 same-four : {a b c d p q r s : ℕ} → a ≡ p → b ≡ q → c ≡ r → d ≡ s → _≡_ {A = List ℕ} (a ∷ b ∷ c ∷ d ∷ []) (p ∷ q ∷ r ∷ s ∷ [])
 same-four i j k l = cc
 
-four-digits-read : (bs : List ℕ) (v : ℕ) → length bs ≡ 4 → numberOf bs ≡ number.Value v → bs ≡ twoDigits (v / 100) ++ twoDigits (v % 100)
+four-digits-read : (bs : List ℕ) (v : ℕ) → length bs ≡ 4 → typedNumber bs ≡ number.Value v → bs ≡ twoDigits (v / 100) ++ twoDigits (v % 100)
 unfolding isNumber valueAfter
 four-digits-read [] v h e = absurd (omega arith)
 four-digits-read (a ∷ []) v h e = absurd (omega arith)
@@ -152,10 +152,10 @@ date-is y m d to e = by-test (isDate y m d) e
 
 pub day-text : (bs : List ℕ) (d : Date) → dayIn bs ≡ day.Is d → bs ≡ dateText d
 unfolding dayIn
-day-text bs to e = go (dayForm bs) refl (numberOf (part 0 4 bs)) refl (numberOf (part 5 2 bs)) refl (numberOf (part 8 2 bs)) refl e
+day-text bs to e = go (dayForm bs) refl (typedNumber (part 0 4 bs)) refl (typedNumber (part 5 2 bs)) refl (typedNumber (part 8 2 bs)) refl e
   where
-    go : (t : Bool) → dayForm bs ≡ t → (y : Number) → numberOf (part 0 4 bs) ≡ y → (m : Number) → numberOf (part 5 2 bs) ≡ m
-        → (d : Number) → numberOf (part 8 2 bs) ≡ d → cond t (dayBy y m d) day.Bad ≡ day.Is to → bs ≡ dateText to
+    go : (t : Bool) → dayForm bs ≡ t → (y : Number) → typedNumber (part 0 4 bs) ≡ y → (m : Number) → typedNumber (part 5 2 bs) ≡ m
+        → (d : Number) → typedNumber (part 8 2 bs) ≡ d → cond t (dayBy y m d) day.Bad ≡ day.Is to → bs ≡ dateText to
     go false f y i m j d k p = absurd (no-day p)
     go true f number.Bad i m j d k p = absurd (no-day p)
     go true f (number.Value y) i number.Bad j d k p = absurd (no-day p)

@@ -14,17 +14,17 @@ use lib.ListN.{length, getD}
 use lib.Seq.{getD-take}
 use Rattle.lists.specs.Tests.{every}
 use Rattle.model.specs.Values.{wordValues}
-use Rattle.slip_text.specs.declared.Numbers.{Numbers}
-use Rattle.slip_text.specs.declared.Width.the-variants.{Word}
-use Rattle.slip_text.specs.Ascii.{blank}
-use Rattle.slip_text.specs.Decimal.{isDigit, isNumber, decimal}
-use Rattle.slip_text.specs.Fields.{fields}
-use Rattle.slip_text.specs.Slip.{numbers, valueAnd}
-use Rattle.slip_text.specs.Scan.{fieldsFrom, numbersIn}
-use Rattle.slip_text.proofs.FieldLaws.{fields-blank, fields-other}
+use Rattle.text.specs.declared.Numbers.{Numbers}
+use Rattle.text.specs.declared.Width.the-variants.{Word}
+use Rattle.text.specs.Ascii.{blank}
+use Rattle.text.specs.Decimal.{isDigit, isNumber, decimal}
+use Rattle.text.specs.Fields.{fields}
+use Rattle.text.specs.Numbers.{numbers, valueAnd}
+use Rattle.text.specs.Scan.{fieldsFrom, numbersIn}
+use Rattle.text.proofs.FieldLaws.{fields-blank, fields-other}
 use Rattle.question.specs.declared.Number.{Number}
 use Rattle.question.specs.declared.Number.the-variants as number
-use Rattle.question.specs.Number.{numberBy, numberOf}
+use Rattle.question.specs.Number.{numberBy, typedNumber}
 
 -- a text is one field, or has two or more and isn't all digits
 data Fielded (bs : List ℕ) : Type 0 where
@@ -68,11 +68,11 @@ among : (o : Option ℕ) → number.Bad ≡ firstNumber (valueAnd o none)
 among none = refl
 among (some v) = refl
 
-pub one-number : (bs : List ℕ) → numberOf bs ≡ firstNumber (numbers (Word ∷ []) (fields bs))
-unfolding numberOf numbers decimal
+pub one-number : (bs : List ℕ) → typedNumber bs ≡ firstNumber (numbers (Word ∷ []) (fields bs))
+unfolding typedNumber numbers decimal
 one-number bs = by-fields (fielded bs)
   where
-    by-fields : Fielded bs → numberOf bs ≡ firstNumber (numbers (Word ∷ []) (fields bs))
+    by-fields : Fielded bs → typedNumber bs ≡ firstNumber (numbers (Word ∷ []) (fields bs))
     by-fields (whole p) = rw p (alone (decimal wordValues bs))
     by-fields (parted f g fs p n) = rw (p, not-number bs n) (among (decimal wordValues f))
 
@@ -81,11 +81,11 @@ unfolding fieldsFrom
 from-start bs = rw (le-leb 0 (length bs) zero-le)
 
 module _ (n : Numbers) (bs : List ℕ) (e : numbersIn n 1 ≡ numbers (Word ∷ []) (fieldsFrom bs 0)) where
-  read : numberOf bs ≡ firstNumber (numbersIn n 1)
+  read : typedNumber bs ≡ firstNumber (numbersIn n 1)
   read = one-number bs ∙ rw (e, from-start bs)
 
-  pub number-bad : n .good ≡ false → number.Bad ≡ numberOf bs
+  pub number-bad : n .good ≡ false → number.Bad ≡ typedNumber bs
   number-bad g = sym (read ∙ rw g)
 
-  pub number-good : n .good ≡ true → number.Value (getD (n .values) 0 0) ≡ numberOf bs
+  pub number-good : n .good ≡ true → number.Value (getD (n .values) 0 0) ≡ typedNumber bs
   number-good g = sym (read ∙ rw g (rw (getD-take 1 (n .values) 0 0 (lit< tt))))

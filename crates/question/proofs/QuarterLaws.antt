@@ -13,14 +13,14 @@ use native.Mathlib.Omega.{arith}
 use borrow.Author.Tests.{le-leb, lt-leb, eqb-true}
 use lib.Dec.{leb, eqb}
 use lib.ListN.{length, getD}
-use Rattle.slip_text.specs.Ascii.{blank}
+use Rattle.text.specs.Ascii.{blank}
 use Rattle.calendar.specs.declared.Date.{Date}
 use Rattle.calendar.specs.Calendar.{isDate, nextDay, dateAfter}
 use Rattle.calendar.specs.Moment.{colon, momentBytes}
 use Rattle.question.specs.declared.Number.the-variants as number
 use Rattle.question.specs.declared.Day.the-variants as day
 use Rattle.question.specs.declared.Quarter.the-variants as quarter
-use Rattle.question.specs.Number.{numberOf}
+use Rattle.question.specs.Number.{typedNumber}
 use Rattle.question.specs.Day.{part, dayIn}
 use Rattle.question.specs.Quarter.{momentForm, sameDate, daysFrom, daysSince, quarterAt, timeOf, quarterOf}
 
@@ -81,15 +81,15 @@ module _ (base : Date) (bs : List ℕ) where
       quarter-no-day e = rw (b, f, e)
 
       module _ (d : Date) (on : dayIn (part 0 10 bs) ≡ day.Is d) where
-        pub quarter-no-hour : numberOf (part 11 2 bs) ≡ number.Bad → quarter.Bad ≡ quarterOf base bs
+        pub quarter-no-hour : typedNumber (part 11 2 bs) ≡ number.Bad → quarter.Bad ≡ quarterOf base bs
         unfolding quarterOf
         quarter-no-hour e = rw (b, f, on, e)
 
-        module _ (h : ℕ) (hour : numberOf (part 11 2 bs) ≡ number.Value h) where
-          pub quarter-no-minute : numberOf (part 14 2 bs) ≡ number.Bad → quarter.Bad ≡ quarterOf base bs
+        module _ (h : ℕ) (hour : typedNumber (part 11 2 bs) ≡ number.Value h) where
+          pub quarter-no-minute : typedNumber (part 14 2 bs) ≡ number.Bad → quarter.Bad ≡ quarterOf base bs
           unfolding quarterOf
           quarter-no-minute e = rw (b, f, on, hour, e)
 
-          pub quarter-read : (m : ℕ) → numberOf (part 14 2 bs) ≡ number.Value m → timeOf base d h m ≡ quarterOf base bs
+          pub quarter-read : (m : ℕ) → typedNumber (part 14 2 bs) ≡ number.Value m → timeOf base d h m ≡ quarterOf base bs
           unfolding quarterOf
           quarter-read m e = rw (b, f, on, hour, e)

@@ -11,10 +11,10 @@ use mathlib.Core.Path.{_≡_, refl}
 use mathlib.Core.Bool.{Bool, true, false}
 use mathlib.Core.List.{List, [], _∷_}
 use Rattle.lists.specs.Tests.{every, sameNumbers}
-use Rattle.slip_text.specs.Ascii.{ascii}
-use Rattle.slip_text.specs.Decimal.{isNumber, valueAfter, decimal}
-use Rattle.slip_text.specs.Fields.{fields}
-use Rattle.slip_text.specs.Slip.{numbers}
+use Rattle.text.specs.Ascii.{ascii}
+use Rattle.text.specs.Decimal.{isNumber, valueAfter, decimal}
+use Rattle.text.specs.Fields.{fields}
+use Rattle.text.specs.Numbers.{numbers}
 use Rattle.calendar.specs.declared.Date.{Date}
 use Rattle.calendar.specs.Calendar.{leapYear, monthDays, isDate, nextDay, dateAfter}
 use Rattle.question.specs.declared.Number.the-variants as number
@@ -26,7 +26,7 @@ use Rattle.calendar.specs.declared.Base.{Base}
 use Rattle.calendar.specs.declared.Base.the-variants as base
 use Rattle.question.specs.declared.Question.{Question}
 use Rattle.question.specs.declared.Question.the-variants as question
-use Rattle.question.specs.Number.{numberOf}
+use Rattle.question.specs.Number.{typedNumber}
 use Rattle.question.specs.Day.{dayForm, dateOf, dayIn}
 use Rattle.question.specs.Quarter.{momentForm, sameDate, daysFrom, quarterAt, timeOf, quarterOf}
 use Rattle.question.specs.Word.{begins}
@@ -35,14 +35,14 @@ use Rattle.question.specs.Question.{marked, timed, plainQuestion, timedQ
 abbrev on : ℕ → ℕ → ℕ → Date
 on y m d = record { year = y; month = m; day = d }
 
-pub number-cases : (numberOf (ascii "007") ≡ number.Value 7)
-    × (numberOf (ascii "65535") ≡ number.Value 65535)
-    × (numberOf (ascii "65536") ≡ number.Bad)
-    × (numberOf (ascii "-7") ≡ number.Bad)
-    × (numberOf (ascii "7 ") ≡ number.Bad)
-    × (numberOf (ascii "7 8") ≡ number.Bad)
-    × (numberOf (ascii "") ≡ number.Bad)
-unfolding numberOf decimal isNumber valueAfter every
+pub number-cases : (typedNumber (ascii "007") ≡ number.Value 7)
+    × (typedNumber (ascii "65535") ≡ number.Value 65535)
+    × (typedNumber (ascii "65536") ≡ number.Bad)
+    × (typedNumber (ascii "-7") ≡ number.Bad)
+    × (typedNumber (ascii "7 ") ≡ number.Bad)
+    × (typedNumber (ascii "7 8") ≡ number.Bad)
+    × (typedNumber (ascii "") ≡ number.Bad)
+unfolding typedNumber decimal isNumber valueAfter every
 number-cases = (refl, refl, refl, refl, refl, refl, refl)
 
 pub day-cases : (dayIn (ascii "2028-02-29") ≡ day.Is (on 2028 2 29))
@@ -53,7 +53,7 @@ pub day-cases : (dayIn (ascii "2028-02-29") ≡ day.Is (on 2028 2 29))
     × (dayIn (ascii "2026/01/01") ≡ day.Bad)
     × (dayIn (ascii "0000-01-01") ≡ day.Bad)
     × (dayIn (ascii "0001-01-01") ≡ day.Is (on 1 1 1))
-unfolding dayIn dayForm dateOf isDate monthDays leapYear numberOf decimal isNumber valueAfter every
+unfolding dayIn dayForm dateOf isDate monthDays leapYear typedNumber decimal isNumber valueAfter every
 day-cases = (refl, refl, refl, refl, refl, refl, refl, refl)
 
 abbrev Quarters : Date → String → Quarter → Type 0
@@ -69,7 +69,7 @@ pub quarter-cases : Quarters (on 2026 1 1) "2026-01-01 00:00" (quarter.Is 0)
     × Quarters (on 2026 1 1) "2026-01-01  0:00" quarter.Bad
     × Quarters (on 2026 1 1) "2026-01-01T10:00" quarter.Bad
     × Quarters (on 2026 2 30) "2026-03-01 00:00" quarter.Bad
-unfolding quarterOf momentForm timeOf quarterAt daysFrom sameDate dateAfter nextDay dayIn dayForm dateOf isDate monthDays leapYear numberOf decimal isNumber valueAfter every
+unfolding quarterOf momentForm timeOf quarterAt daysFrom sameDate dateAfter nextDay dayIn dayForm dateOf isDate monthDays leapYear typedNumber decimal isNumber valueAfter every
 quarter-cases = (refl, refl, refl, refl, refl, refl, refl, refl, refl, refl)
 
 abbrev newYear : Base
@@ -88,7 +88,7 @@ pub question-cases : Asks newYear "who 12 40" (question.Who 12 40)
     × Asks newYear "" question.More
     × Asks newYear "help" question.Help
     × Asks newYear "quit" question.Quit
-unfolding questionOf timed marked plainQuestion timedQuestion begins sameNumbers numbers fields quarterOf momentForm timeOf quarterAt daysFrom sameDate dateAfter nextDay dayIn dayForm dateOf isDate monthDays leapYear numberOf decimal isNumber valueAfter every
+unfolding questionOf timed marked plainQuestion timedQuestion begins sameNumbers numbers fields quarterOf momentForm timeOf quarterAt daysFrom sameDate dateAfter nextDay dayIn dayForm dateOf isDate monthDays leapYear typedNumber decimal isNumber valueAfter every
 question-cases = (refl, refl, refl, refl, refl, refl, refl, refl, refl, refl)
 
 abbrev isBad : Question → Bool
@@ -108,5 +108,5 @@ badLines =
     ∷ "who 12 40 2026-01-01 10:00" ∷ "may 12 2026-01-01 10:00" ∷ "2026-01-01 10:00" ∷ "who 12 2026-01-01 24:00" ∷ []
 
 pub bad-questions : every (λ t. isBad (questionOf newYear (ascii t))) badLines ≡ true
-unfolding questionOf timed marked plainQuestion timedQuestion begins sameNumbers numbers fields quarterOf momentForm timeOf quarterAt daysFrom sameDate dateAfter nextDay dayIn dayForm dateOf isDate monthDays leapYear numberOf decimal isNumber valueAfter every
+unfolding questionOf timed marked plainQuestion timedQuestion begins sameNumbers numbers fields quarterOf momentForm timeOf quarterAt daysFrom sameDate dateAfter nextDay dayIn dayForm dateOf isDate monthDays leapYear typedNumber decimal isNumber valueAfter every
 bad-questions = refl

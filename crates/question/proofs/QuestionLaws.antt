@@ -17,11 +17,11 @@ use lib.Dec.{leb, eqb, lit<}
 use lib.ListN.{length, getD, take, drop}
 use lib.Seq.{getD-take}
 use Rattle.lists.specs.Tests.{sameNumbers}
-use Rattle.slip_text.specs.declared.Numbers.{Numbers}
-use Rattle.slip_text.specs.declared.Width.the-variants.{Word}
-use Rattle.slip_text.specs.Ascii.{ascii, blank}
-use Rattle.slip_text.specs.Slip.{numbers}
-use Rattle.slip_text.specs.Scan.{fieldsFrom, numbersIn}
+use Rattle.text.specs.declared.Numbers.{Numbers}
+use Rattle.text.specs.declared.Width.the-variants.{Word}
+use Rattle.text.specs.Ascii.{ascii, blank}
+use Rattle.text.specs.Numbers.{numbers}
+use Rattle.text.specs.Scan.{fieldsFrom, numbersIn}
 use Rattle.calendar.specs.declared.Date.{Date}
 use Rattle.calendar.specs.declared.Base.{Base}
 use Rattle.calendar.specs.declared.Base.the-variants as base

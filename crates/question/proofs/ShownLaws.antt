@@ -16,7 +16,7 @@ use borrow.Author.Tests.{le-leb, lt-ltb, eq-eqb}
 use lib.Dec.{ltb}
 use Rattle.lists.specs.Tests.{every}
 use Rattle.model.specs.Values.{wordValues}
-use Rattle.slip_text.specs.Decimal.{zeroDigit, nineDigit, isNumber, valueAfter, decimal}
+use Rattle.text.specs.Decimal.{zeroDigit, nineDigit, isNumber, valueAfter, decimal}
 use Rattle.calendar.specs.declared.Date.{Date}
 use Rattle.calendar.specs.Calendar.{lastYear, monthDays, nextDay, dateAfter, dayOf, hourOf, minuteOf}
 use Rattle.calendar.specs.Moment.{twoDigits, dateText, momentText}
@@ -24,7 +24,7 @@ use Rattle.calendar.proofs.CalendarLaws.{IsDate, isDate-iff, next-date, next-ye
 use Rattle.question.specs.declared.Number.the-variants as number
 use Rattle.question.specs.declared.Day.the-variants as day
 use Rattle.question.specs.declared.Quarter.the-variants as quarter
-use Rattle.question.specs.Number.{numberOf}
+use Rattle.question.specs.Number.{typedNumber}
 use Rattle.question.specs.Day.{dayForm, dateOf, dayIn}
 use Rattle.question.specs.Quarter.{momentForm, sameDate, daysFrom, daysSince, daysLimit, lastQuarter, quarterAt, timeOf, quarterOf}
 use Rattle.question.proofs.DayLaws.{monthDays-most}
@@ -36,8 +36,8 @@ low d = omega arith
 high : (d : ℕ) → d < 10 → zeroDigit + d ≤ nineDigit
 high d h = omega arith
 
-pub number-two : (n : ℕ) → n < 100 → numberOf (twoDigits n) ≡ number.Value n
-unfolding numberOf decimal isNumber every valueAfter
+pub number-two : (n : ℕ) → n < 100 → typedNumber (twoDigits n) ≡ number.Value n
+unfolding typedNumber decimal isNumber every valueAfter
 number-two n h =
     let a = n / 10 % 10 in
     let b = n % 10 in
@@ -55,8 +55,8 @@ four-value : (a b x y hundreds rest n : ℕ) → hundreds ≡ a * 10 + b → res
     → (((0 * 10 + (zeroDigit + a - zeroDigit)) * 10 + (zeroDigit + b - zeroDigit)) * 10 + (zeroDigit + x - zeroDigit)) * 10 + (zeroDigit + y - zeroDigit) ≡ n
 four-value a b x y hundreds rest n p q r = omega arith
 
-pub number-four : (n : ℕ) → n < 10000 → numberOf (twoDigits (n / 100) ++ twoDigits (n % 100)) ≡ number.Value n
-unfolding numberOf decimal isNumber every valueAfter
+pub number-four : (n : ℕ) → n < 10000 → typedNumber (twoDigits (n / 100) ++ twoDigits (n % 100)) ≡ number.Value n
+unfolding typedNumber decimal isNumber every valueAfter
 number-four n h =
     let a = n / 100 / 10 % 10 in
     let b = n / 100 % 10 in

@@ -15,7 +15,7 @@ use Rattle.question.specs.declared.Number.{Number}
 use Rattle.question.specs.declared.Number.the-variants as number
 use Rattle.question.specs.declared.Day.{Day}
 use Rattle.question.specs.declared.Day.the-variants as day
-use Rattle.question.specs.Number.{numberOf}
+use Rattle.question.specs.Number.{typedNumber}
 
 abbrev pub part : ℕ → ℕ → List ℕ → List ℕ
 part from count bs = take count (drop from bs)
@@ -34,4 +34,4 @@ dayBy (number.Value y) (number.Value m) number.Bad = day.Bad
 dayBy (number.Value y) (number.Value m) (number.Value d) = dateOf y m d
 
 unfoldable pub dayIn : List ℕ → Day
-dayIn bs = cond (dayForm bs) (dayBy (numberOf (part 0 4 bs)) (numberOf (part 5 2 bs)) (numberOf (part 8 2 bs))) day.Bad
+dayIn bs = cond (dayForm bs) (dayBy (typedNumber (part 0 4 bs)) (typedNumber (part 5 2 bs)) (typedNumber (part 8 2 bs))) day.Bad

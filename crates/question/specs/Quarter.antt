@@ -13,7 +13,7 @@ use mathlib.Core.Bool.{Bool, cond, _&&_}
 use mathlib.Core.List.{List}
 use lib.Dec.{eqb, leb}
 use lib.ListN.{length, getD}
-use Rattle.slip_text.specs.Ascii.{blank}
+use Rattle.text.specs.Ascii.{blank}
 use Rattle.calendar.specs.declared.Date.{Date}
 use Rattle.calendar.specs.Calendar.{isDate, dateAfter}
 use Rattle.calendar.specs.Moment.{colon, momentBytes}
@@ -23,7 +23,7 @@ use Rattle.question.specs.declared.Day.{Day}
 use Rattle.question.specs.declared.Day.the-variants as day
 use Rattle.question.specs.declared.Quarter.{Quarter}
 use Rattle.question.specs.declared.Quarter.the-variants as quarter
-use Rattle.question.specs.Number.{numberOf}
+use Rattle.question.specs.Number.{typedNumber}
 use Rattle.question.specs.Day.{part, dayIn}
 
 unfoldable pub momentForm : List ℕ → Bool
@@ -63,4 +63,4 @@ quarterBy base (day.Is d) (number.Value h) (number.Value m) = timeOf base d h m
 unfoldable pub quarterOf : Date → List ℕ → Quarter
 quarterOf base bs =
     cond (isDate (base .year) (base .month) (base .day) && momentForm bs)
-    (quarterBy base (dayIn (part 0 10 bs)) (numberOf (part 11 2 bs)) (numberOf (part 14 2 bs))) quarter.Bad
+    (quarterBy base (dayIn (part 0 10 bs)) (typedNumber (part 11 2 bs)) (typedNumber (part 14 2 bs))) quarter.Bad

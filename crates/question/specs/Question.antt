@@ -19,10 +19,10 @@ use mathlib.Core.Option.{Option, none, some}
 use lib.Dec.{eqb, leb}
 use lib.ListN.{length, getD, take, drop}
 use Rattle.lists.specs.Tests.{sameNumbers}
-use Rattle.slip_text.specs.declared.Width.the-variants.{Word}
-use Rattle.slip_text.specs.Ascii.{ascii, blank}
-use Rattle.slip_text.specs.Fields.{fields}
-use Rattle.slip_text.specs.Slip.{numbers}
+use Rattle.text.specs.declared.Width.the-variants.{Word}
+use Rattle.text.specs.Ascii.{ascii, blank}
+use Rattle.text.specs.Fields.{fields}
+use Rattle.text.specs.Numbers.{numbers}
 use Rattle.calendar.specs.Moment.{dash, colon, momentBytes}
 use Rattle.calendar.specs.declared.Base.{Base}
 use Rattle.calendar.specs.declared.Base.the-variants as base

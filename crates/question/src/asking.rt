@@ -2,9 +2,9 @@
 ghost use mathlib.Core.Path.{_≡_};
 ghost use mathlib.Core.List.{[], _∷_};
 ghost use lib.ListN.{length};
-ghost use Rattle.slip_text.specs.declared.Width.the-variants.{Word};
-ghost use Rattle.slip_text.specs.Slip.{numbers};
-ghost use Rattle.slip_text.specs.Scan.{fieldsFrom};
+ghost use Rattle.text.specs.declared.Width.the-variants.{Word};
+ghost use Rattle.text.specs.Numbers.{numbers};
+ghost use Rattle.text.specs.Scan.{fieldsFrom};
 ghost use Rattle.calendar.specs.Moment.{momentBytes};
 ghost use Rattle.question.specs.Question.{marked, timed, questionBy, whoOf, mayOf, whoAt, mayAt};
 ghost use Rattle.question.specs.Question.{plainQuestion, timedQuestion, questionOf};
@@ -14,8 +14,8 @@ use crate::quarters::quarter_of;
 use crate::words::equals;
 use crate::words::starts;
 use calendar::Base;
-use slip_text::reading::WORDS;
-use slip_text::reading::read_numbers;
+use text::reading::WORDS;
+use text::reading::read_numbers;
 
 // The longest line.
 const LINE: usize = 4096;

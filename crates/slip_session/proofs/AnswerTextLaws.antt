@@ -15,7 +15,7 @@ use Rattle.model.specs.declared.Counted.{Counted}
 use Rattle.model.specs.declared.Counted.the-variants as counted
 use Rattle.model.specs.Call.{Request, grant, revoke, list, decide, count}
 use Rattle.model.specs.Answer.{outcomeAnswer, listedAnswer, decisionAnswer, countedAnswer}
-use Rattle.slip_text.specs.Text.{outcomeText, listedText, decisionText, countedText}
+use Rattle.slip_session.specs.Text.{outcomeText, listedText, decisionText, countedText}
 use Rattle.slip_session.specs.AnswerText.{answerText}
 
 module _ (lent : List ℕ) where

@@ -13,13 +13,14 @@ use lib.Dec.{eqb, ltb, lit<}
 use lib.ListN.{length, getD}
 use Rattle.model.specs.Call.{Call}
 use Rattle.model.specs.Values.{wordValues, Below, BoxFits, CallFits}
-use Rattle.slip_text.specs.declared.Slip.{Slip}
-use Rattle.slip_text.specs.declared.Slip.the-variants as slip
-use Rattle.slip_text.specs.declared.Width.the-variants.{Word}
-use Rattle.slip_text.specs.Width.{valuesOf}
-use Rattle.slip_text.specs.Fields.{fields}
-use Rattle.slip_text.specs.Slip.{numbers, grantWidths, revokeWidths, boxWidths, decideWidths, boxAt, grantOf, revokeOf, listOf, decideOf, countOf, slipBy, letterSlip, fieldsSlip, parseLine}
-use Rattle.slip_text.proofs.SlipLaws.{numbers-fit}
+use Rattle.slip_session.specs.declared.Slip.{Slip}
+use Rattle.slip_session.specs.declared.Slip.the-variants as slip
+use Rattle.text.specs.declared.Width.the-variants.{Word}
+use Rattle.text.specs.Width.{valuesOf}
+use Rattle.text.specs.Fields.{fields}
+use Rattle.slip_session.specs.Slip.{grantWidths, revokeWidths, boxWidths, decideWidths, boxAt, grantOf, revokeOf, listOf, decideOf, countOf, slipBy, letterSlip, fieldsSlip, parseLine}
+use Rattle.text.specs.Numbers.{numbers}
+use Rattle.slip_session.proofs.SlipLaws.{numbers-fit}
 use Rattle.slip_session.specs.Longest.{longest, slipOf}
 use Rattle.slip_session.specs.SlipCall.{callOf}
 

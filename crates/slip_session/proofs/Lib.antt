@@ -4,5 +4,7 @@ pub mod FitLaws
 pub mod AnswerTextLaws
 pub mod LineLaws
 pub mod SessionLaws
-pub mod SlipsPrint
-pub mod MarkedSession
+pub mod SlipLaws
+pub mod TextLaws
+pub mod MarkedLines
+pub mod JournalLineLaws

@@ -18,12 +18,12 @@ use Rattle.model.specs.Limits.{maxGrants}
 use Rattle.model.specs.Call.{Call, request, grant, revoke, list, decide, count}
 use Rattle.model.specs.Answer.{Answer, outcomeAnswer, listedAnswer, decisionAnswer, countedAnswer}
 use Rattle.model.proofs.JudgedLaws.{refusing-keeps-state}
-use Rattle.slip_text.specs.declared.Slip.{Slip}
-use Rattle.slip_text.specs.declared.Slip.the-variants as slip
-use Rattle.slip_text.specs.Slip.{parseLine}
-use Rattle.slip_text.specs.Text.{outcomeText, listedText, decisionText, countedText, badText}
-use Rattle.index.specs.Calls.{grantCall, revokeCall, listCall, decideCall, countCall, wordsStep}
-use Rattle.index.specs.Contract.{Leaves, Lends}
+use Rattle.slip_session.specs.declared.Slip.{Slip}
+use Rattle.slip_session.specs.declared.Slip.the-variants as slip
+use Rattle.slip_session.specs.Slip.{parseLine}
+use Rattle.slip_session.specs.Text.{outcomeText, listedText, decisionText, countedText, badText}
+use Rattle.calls.specs.Calls.{grantCall, revokeCall, listCall, decideCall, countCall, wordsStep}
+use Rattle.calls.specs.Contract.{Leaves, Lends}
 use Rattle.slip_session.specs.Longest.{longest, slipOf}
 use Rattle.slip_session.specs.AnswerText.{answerText}
 use Rattle.slip_session.specs.LineStep.{lineStep}

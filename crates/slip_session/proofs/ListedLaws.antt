@@ -13,10 +13,10 @@ use Rattle.model.specs.Refusal.{Step}
 use Rattle.model.proofs.RefusalLaws.{causes-absent, accepted-none, accepted-done}
 use Rattle.geometry.specs.SearchRange.{rangeOfBox}
 use Rattle.pool.proofs.CapacityLaws.{capacityOf-poolLength, wrongPool-iff}
-use Rattle.index.specs.Walks.{boxSearch, hitsOf}
-use Rattle.index.specs.Order.{listOrder}
-use Rattle.index.specs.Calls.{listCall}
-use Rattle.index.proofs.FewHitsLaws.{hits-few}
+use Rattle.calls.specs.Walks.{boxSearch, hitsOf}
+use Rattle.calls.specs.Order.{listOrder}
+use Rattle.calls.specs.Calls.{listCall}
+use Rattle.calls.proofs.FewHitsLaws.{hits-few}
 
 pub list-few : (w : List ℕ) (q : Box) (lent : List ℕ) (n : ℕ) → listCall w q lent .answer ≡ accepted (n ∷ []) → n ≤ maxGrants
 unfolding listCall listOrder

@@ -10,7 +10,7 @@ use mathlib.Core.Option.{Option, none, some}
 use Rattle.model.specs.Call.{Call}
 use Rattle.model.specs.Values.{CallFits}
 use Rattle.model.specs.Refusal.{Step}
-use Rattle.model.specs.Histories.{Told}
+use Rattle.model.specs.Histories.{Response}
 use Rattle.model.proofs.Simulation.{Agrees}
 use Rattle.slip_session.specs.Longest.{slipOf}
 use Rattle.slip_session.specs.SlipCall.{callOf}
@@ -34,8 +34,8 @@ module _ {W S : Type 0} (concrete : W → Call → Step W) (model : S → Call �
       go (some c) fits =
           let a = call-refines w s c fits r in
           record {
-            text = ap (λ (t : Told). answerText c (t .answer) (lentAfter c lent (t .lent))) (a .same);
-            lent = ap (λ (t : Told). lentAfter c lent (t .lent)) (a .same);
+            text = ap (λ (t : Response). answerText c (t .answer) (lentAfter c lent (t .lent))) (a .same);
+            lent = ap (λ (t : Response). lentAfter c lent (t .lent)) (a .same);
             related = a .related;
           }
 

@@ -11,7 +11,7 @@ use lib.Dec.{eqb}
 use lib.ListN.{getD}
 use Rattle.model.specs.Call.{Call, grant, revoke, list, decide, count}
 use Rattle.model.specs.Answer.{Answer, accepted, refused}
-use Rattle.slip_text.specs.Text.{okText, refusedText, listText, opensText, barredText, noneText, countText}
+use Rattle.slip_session.specs.Text.{okText, refusedText, listText, opensText, barredText, noneText, countText}
 
 -- 0 none, 1 opens, 2 barred; then the grant's number
 abbrev pub decidedText : ℕ → ℕ → List ℕ

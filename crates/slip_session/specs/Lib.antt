@@ -4,4 +4,8 @@ pub mod SlipCall
 pub mod AnswerText
 pub mod LineStep
 pub mod Contract
-pub mod Claim
+pub mod Slip
+pub mod Text
+pub mod Meaning
+pub mod JournalStep
+pub mod JournalContract

@@ -11,7 +11,7 @@ use mathlib.Core.List.{List, [], _∷_, _++_}
 use mathlib.Core.Option.{Option, none, some}
 use Rattle.model.specs.Call.{Call, grant, revoke, list, decide, count}
 use Rattle.model.specs.Refusal.{Step}
-use Rattle.slip_text.specs.Text.{badText}
+use Rattle.slip_session.specs.Text.{badText}
 use Rattle.slip_session.specs.Longest.{slipOf}
 use Rattle.slip_session.specs.SlipCall.{callOf}
 use Rattle.slip_session.specs.AnswerText.{answerText}

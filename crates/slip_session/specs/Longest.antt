@@ -6,9 +6,9 @@ use mathlib.Core.Bool.{cond}
 use mathlib.Core.List.{List}
 use lib.Dec.{ltb}
 use lib.ListN.{length}
-use Rattle.slip_text.specs.declared.Slip.{Slip}
-use Rattle.slip_text.specs.declared.Slip.the-variants.{Bad}
-use Rattle.slip_text.specs.Slip.{parseLine}
+use Rattle.slip_session.specs.declared.Slip.{Slip}
+use Rattle.slip_session.specs.declared.Slip.the-variants.{Bad}
+use Rattle.slip_session.specs.Slip.{parseLine}
 
 abbrev pub longest : ℕ
 longest = 4096

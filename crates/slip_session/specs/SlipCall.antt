@@ -5,8 +5,8 @@ use Prim.Native.Nat.{ℕ}
 use mathlib.Core.List.{List}
 use mathlib.Core.Option.{Option, none, some}
 use Rattle.model.specs.Call.{Call, request, grant, revoke, list, decide, count}
-use Rattle.slip_text.specs.declared.Slip.{Slip}
-use Rattle.slip_text.specs.declared.Slip.the-variants as slip
+use Rattle.slip_session.specs.declared.Slip.{Slip}
+use Rattle.slip_session.specs.declared.Slip.the-variants as slip
 
 abbrev pub callOf : Slip → List ℕ → Option Call
 callOf (slip.Grant number rank kind bounds) lent = some (grant (request number rank kind bounds))

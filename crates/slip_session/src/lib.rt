@@ -1,22 +1,48 @@
-// One line of the slip program after another, on one pool (document 01, "Marked cases").
+// Lines of slips (document 01, "Marked cases"), one after another, on one pool: a line read as a call, its answer printed as a line, a
+// journal's line replayed, and the slip program as one function.
 ghost use lib.ListN.{take};
-ghost use Rattle.slip_text.specs.Put.{Counts};
-ghost use Rattle.index.specs.Calls.{wordsStep};
+ghost use Rattle.text.specs.Put.{Counts};
+ghost use Rattle.calls.specs.Calls.{wordsStep};
 ghost use Rattle.slip_session.specs.LineStep.{lineStep};
 ghost use Rattle.slip_session.specs.Contract.{Prints};
+
+pub mod journal;
+pub mod parsing;
+pub mod printing;
+pub mod program;
+
+use crate::parsing::parse;
+use crate::printing::LINE_BYTES;
+use crate::printing::print_bad;
+use crate::printing::print_counted;
+use crate::printing::print_decision;
+use crate::printing::print_listed;
+use crate::printing::print_outcome;
 use index::count::count;
 use index::decide::decide;
 use index::grant::grant;
 use index::list::list;
 use index::revoke::revoke;
-use slip_text::Slip;
-use slip_text::printing::LINE_BYTES;
-use slip_text::printing::print_bad;
-use slip_text::printing::print_counted;
-use slip_text::printing::print_decision;
-use slip_text::printing::print_listed;
-use slip_text::printing::print_outcome;
-use slip_text::reading::parse;
+use model::Box;
+
+// A line's call with its arguments. A kind above 1 is a value here; grant refuses it.
+pub enum Slip {
+    Grant {
+        number: u16,
+        rank: u8,
+        kind: u8,
+        bounds: Box,
+    },
+    Revoke(u16),
+    List(Box),
+    Decide {
+        staff: u16,
+        door: u16,
+        quarter: u16,
+    },
+    Count,
+    Bad,
+}
 
 // A line of more bytes than this is of another form, whatever it holds.
 pub const LONGEST: usize = 4096;

@@ -2,9 +2,9 @@
 use Prim.Native.Nat.{_≤_}
 use native.Mathlib.Omega.{arith}
 use lib.ListN.{length}
-use Rattle.slip_text.specs.Numeral.{numeral}
-use Rattle.slip_text.proofs.NumeralLaws.{numeral-few}
-use Rattle.slip_text.proofs.PutLaws.{put-then}
+use Rattle.text.specs.Numeral.{numeral}
+use Rattle.text.proofs.NumeralLaws.{numeral-few}
+use Rattle.text.proofs.PutLaws.{put-then}
 use borrow.Author.Needs.{needs}
 use Rattle.fault_words.proofs.put_valued.Statement.{statement}
 use Rattle.fault_words.proofs.put_valued.Tie as tie

@@ -3,9 +3,9 @@ use Prim.Native.Nat.{ℕ, _<_, _≤_}
 use mathlib.Core.Path.{sym}
 use native.Mathlib.Omega.{arith}
 use lib.ListN.{length}
-use Rattle.slip_text.specs.Numeral.{numeral}
-use Rattle.slip_text.proofs.NumeralLaws.{numeral-few}
-use Rattle.slip_text.proofs.PutLaws.{put-then, put-line}
+use Rattle.text.specs.Numeral.{numeral}
+use Rattle.text.proofs.NumeralLaws.{numeral-few}
+use Rattle.text.proofs.PutLaws.{put-then, put-line}
 use borrow.Author.Needs.{needs}
 use Rattle.fault_words.proofs.refusal_line.Statement.{statement}
 use Rattle.fault_words.proofs.refusal_line.Tie as tie

@@ -1,7 +1,7 @@
 -- `insert::find_slot` meets its contract. The invariant looks forward: the rest of the way is the whole way. Assumes nothing.
 use lib.Dec.{lit≤}
-use Rattle.adt.proofs.WaySteps.{way-end, way-blank, way-above, way-full, way-next}
-use Rattle.adt.specs.Insert.{wayDown, descend}
+use Rattle.adt.proofs.DescentSteps.{descent-end, descent-blank, descent-above, descent-full, descent-next}
+use Rattle.adt.specs.Insert.{descendFrom, descend}
 use Rattle.pool.proofs.CapacityLaws.{capacityOf-poolLength}
 use lib.ListN.{length}
 use native.Mathlib.Omega.{arith}
@@ -16,7 +16,7 @@ use Rattle.adt.proofs.insert.find_slot.Statement.{statement}
 use Rattle.adt.proofs.insert.find_slot.Tie as tie
 
 abbrev Inv-loop : tie.InvT-loop
-Inv-loop pool cells point region₀ link₀ below₀ met₀ region link below met = (below ≤ 113) × (link < length pool) × (met ≤ cells) × Shape region × (wayDown pool cells point below link region met ≡ descend pool point)
+Inv-loop pool cells point region₀ link₀ below₀ met₀ region link below met = (below ≤ 113) × (link < length pool) × (met ≤ cells) × Shape region × (descendFrom pool cells point below link region met ≡ descend pool point)
 
 abbrev μ-loop : tie.MeasureT-loop
 μ-loop pool cells point region₀ link₀ below₀ met₀ region link below met = below
@@ -46,13 +46,13 @@ wide-requires : tie.Need-wide-requires Inv-loop μ-loop
 wide-requires c κs = search needs
 
 returns : tie.Need-returns Inv-loop μ-loop
-returns c = way-blank _ _ _ _ _ _ _ _ (c .before .before .before .loop-test .taken) (c .before .wide .ensures .0) (c .if1 .taken) ∙ c .before .before .before .before .loop .inv .4
+returns c = descent-blank _ _ _ _ _ _ _ _ (c .before .before .before .loop-test .taken) (c .before .wide .ensures .0) (c .if1 .taken) ∙ c .before .before .before .before .loop .inv .4
 
 returns-2 : tie.Need-returns-2 Inv-loop μ-loop
-returns-2 c = way-above _ _ _ _ _ _ _ _ (c .before .before .before .before .loop-test .taken) (c .before .before .wide .ensures .0) (c .before .if1 .left) (c .if2 .taken) ∙ c .before .before .before .before .before .loop .inv .4
+returns-2 c = descent-above _ _ _ _ _ _ _ _ (c .before .before .before .before .loop-test .taken) (c .before .before .wide .ensures .0) (c .before .if1 .left) (c .if2 .taken) ∙ c .before .before .before .before .before .loop .inv .4
 
 returns-3 : tie.Need-returns-3 Inv-loop μ-loop
-returns-3 c = way-full _ _ _ _ _ _ _ _ (c .before .before .before .before .before .loop-test .taken) (c .before .before .before .wide .ensures .0) (c .before .before .if1 .left) (c .before .if2 .left) (c .if3 .taken) ∙ c .before .before .before .before .before .before .loop .inv .4
+returns-3 c = descent-full _ _ _ _ _ _ _ _ (c .before .before .before .before .before .loop-test .taken) (c .before .before .before .wide .ensures .0) (c .before .before .if1 .left) (c .before .if2 .left) (c .if3 .taken) ∙ c .before .before .before .before .before .before .loop .inv .4
 
 sub-axis-of : tie.Need-sub-axis-of Inv-loop μ-loop
 sub-axis-of c = search needs
@@ -122,12 +122,12 @@ loop-again c =
       omega (arith, c .link-place .ensures .1, p .1, two .if2 .left),
       omega (arith, three .if3 .left),
       subst Shape (sym half) (half-shape _ (l .region) _ (l .inv .3) (axed .axis-of .ensures .1)),
-      way-next _ _ _ _ _ _ _ _ (inner .loop-test .taken) (read .wide .ensures .0) (one .if1 .left) (two .if2 .left) (three .if3 .left) (axed .axis-of .ensures .0) (sided .side-of .ensures) half (c .link-place .ensures .0)
+      descent-next _ _ _ _ _ _ _ _ (inner .loop-test .taken) (read .wide .ensures .0) (one .if1 .left) (two .if2 .left) (three .if3 .left) (axed .axis-of .ensures .0) (sided .side-of .ensures) half (c .link-place .ensures .0)
           ∙ l .inv .4,
     )
 
 returns-4 : tie.Need-returns-4 Inv-loop μ-loop
-returns-4 c = way-end _ _ _ _ _ _ _ (c .loop-test .left) ∙ c .before .loop .inv .4
+returns-4 c = descent-end _ _ _ _ _ _ _ (c .loop-test .left) ∙ c .before .loop .inv .4
 
 pub find-slot-spec : {M : Type 1} → statement M
 find-slot-spec =

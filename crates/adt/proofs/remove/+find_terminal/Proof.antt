@@ -1,6 +1,6 @@
 -- `remove::find_terminal` meets its contract, test by test; the levels below fall. Assumes nothing.
 use mathlib.Core.Path.{_∙_}
-use Rattle.adt.proofs.WaySteps.{follow-terminal, follow-deep, follow-above, follow-full, follow-next}
+use Rattle.adt.proofs.DescentSteps.{follow-terminal, follow-deep, follow-above, follow-full, follow-next}
 use borrow.Author.Needs.{needs}
 use Prim.Native.Nat.{ℕ, _<_}
 use borrow.Fn.Kinds.{In}

@@ -1,5 +1,5 @@
 -- `remove::next_link` meets its contract. Assumes nothing.
-use Rattle.adt.proofs.WaySteps.{next-right, next-left}
+use Rattle.adt.proofs.DescentSteps.{next-right, next-left}
 use borrow.Author.Needs.{needs}
 use Rattle.adt.proofs.remove.next_link.Statement.{statement}
 use Rattle.adt.proofs.remove.next_link.Tie as tie

@@ -1,6 +1,6 @@
 -- `remove::remove` meets its contract, for a terminal cell and for another. Assumes nothing.
-use Rattle.adt.proofs.WaySteps.{length-freed}
-use Rattle.adt.proofs.WaySteps.{remove-terminal, remove-other}
+use Rattle.adt.proofs.DescentSteps.{length-freed}
+use Rattle.adt.proofs.DescentSteps.{remove-terminal, remove-other}
 use lib.ListN.{length, length-set}
 use native.Mathlib.Omega.{arith}
 use mathlib.Core.Path.{_≡_, sym, ap, _∙_}

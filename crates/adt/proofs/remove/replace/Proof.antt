@@ -1,5 +1,5 @@
 -- `remove::replace` meets its contract: its stores are those of `replaced`. Assumes nothing.
-use Rattle.adt.proofs.WaySteps.{replace-steps}
+use Rattle.adt.proofs.DescentSteps.{replace-steps}
 use lib.ListN.{length, length-set}
 use native.Mathlib.Omega.{arith}
 use mathlib.Core.Path.{_≡_, sym, ap, _∙_}

@@ -9,7 +9,7 @@ use Rattle.geometry.specs.Axis.{axes, axisOf, axisAfter}
 use Rattle.geometry.specs.Levels.{levels}
 use Rattle.geometry.specs.Region.{Region, Shape, meets}
 use Rattle.geometry.proofs.NarrowLaws.{narrow-shape}
-use Rattle.adt.proofs.EnterSteps.{son-meets, son-blank, son-deep, son-before, son-behind, son-past, son-visited, visit-in, visit-cut, visit-left-cut, visit-whole}
+use Rattle.adt.proofs.EnterSteps.{child-meets, child-blank, child-deep, child-before, child-behind, child-past, child-visited, visit-in, visit-cut, visit-left-cut, visit-whole}
 use borrow.Author.Needs.{needs}
 use borrow.Fn.Kinds.{In}
 use borrow.Fn.PlainCycle.{Measures, is, falls, and}
@@ -73,14 +73,14 @@ enter-returns t c =
     let start = c .before .before .before .before in
     let a = start .args in
     let p = start .pre .1 in
-    son-blank (a .pool .now) (a .cells) (a .range .now) (a .below) (a .link) (c .before .wide .ensures .0) (a .region) (a .axis) (a .low) (a .high) (p .4) (axis-is (levels - a .below) (p .5)) (p .6) (p .0 .counted) (c .if1 .taken)
+    child-blank (a .pool .now) (a .cells) (a .range .now) (a .below) (a .link) (c .before .wide .ensures .0) (a .region) (a .axis) (a .low) (a .high) (p .4) (axis-is (levels - a .below) (p .5)) (p .6) (p .0 .counted) (c .if1 .taken)
 
 enter-returns-2 : (t : ℕ) → enter-lts.Need-returns-2 (enter-calls t) (enter-at t) enter.Post
 enter-returns-2 t c =
     let start = c .before .before .before .before .before in
     let a = start .args in
     let p = start .pre .1 in
-    son-deep (a .pool .now) (a .cells) (a .range .now) (a .below) (a .link) (c .before .before .wide .ensures .0) (a .region) (a .axis) (a .low) (a .high) (p .4) (axis-is (levels - a .below) (p .5)) (p .6) (p .0 .counted) (c .before .if1 .left) (c .if2 .taken)
+    child-deep (a .pool .now) (a .cells) (a .range .now) (a .below) (a .link) (c .before .before .wide .ensures .0) (a .region) (a .axis) (a .low) (a .high) (p .4) (axis-is (levels - a .below) (p .5)) (p .6) (p .0 .counted) (c .before .if1 .left) (c .if2 .taken)
 
 enter-mul-if3 : (t : ℕ) → enter-lts.Need-mul-if3 (enter-calls t) (enter-at t) enter.Post
 enter-mul-if3 t c = search needs
@@ -96,7 +96,7 @@ enter-returns-3 t c =
     let start = c .before .before .before .before .before .before .before in
     let a = start .args in
     let p = start .pre .1 in
-    son-before (a .pool .now) (a .cells) (a .range .now) (a .below) (a .link) (c .before .before .before .before .wide .ensures .0) (a .region) (a .axis) (a .low) (a .high) (p .4) (axis-is (levels - a .below) (p .5)) (p .6) (p .0 .counted) (c .before .before .before .if1 .left) (c .before .before .if2 .left) (c .if3 .taken)
+    child-before (a .pool .now) (a .cells) (a .range .now) (a .below) (a .link) (c .before .before .before .before .wide .ensures .0) (a .region) (a .axis) (a .low) (a .high) (p .4) (axis-is (levels - a .below) (p .5)) (p .6) (p .0 .counted) (c .before .before .before .if1 .left) (c .before .before .if2 .left) (c .if3 .taken)
 
 enter-mul-if4 : (t : ℕ) → enter-lts.Need-mul-if4 (enter-calls t) (enter-at t) enter.Post
 enter-mul-if4 t c = search needs
@@ -112,14 +112,14 @@ enter-returns-4 t c =
     let start = c .before .before .before .before .before .before .before .before .before in
     let a = start .args in
     let p = start .pre .1 in
-    son-behind (a .pool .now) (a .cells) (a .range .now) (a .below) (a .link) (c .before .before .before .before .before .before .wide .ensures .0) (a .region) (a .axis) (a .low) (a .high) (p .4) (axis-is (levels - a .below) (p .5)) (p .6) (p .0 .counted) (c .before .before .before .before .before .if1 .left) (c .before .before .before .before .if2 .left) (c .before .before .if3 .left) (c .if4 .taken)
+    child-behind (a .pool .now) (a .cells) (a .range .now) (a .below) (a .link) (c .before .before .before .before .before .before .wide .ensures .0) (a .region) (a .axis) (a .low) (a .high) (p .4) (axis-is (levels - a .below) (p .5)) (p .6) (p .0 .counted) (c .before .before .before .before .before .if1 .left) (c .before .before .before .before .if2 .left) (c .before .before .if3 .left) (c .if4 .taken)
 
 enter-returns-5 : (t : ℕ) → enter-lts.Need-returns-5 (enter-calls t) (enter-at t) enter.Post
 enter-returns-5 t c =
     let start = c .before .before .before .before .before .before .before .before .before .before in
     let a = start .args in
     let p = start .pre .1 in
-    son-past (a .pool .now) (a .cells) (a .range .now) (a .below) (a .link) (c .before .before .before .before .before .before .before .wide .ensures .0) (a .region) (a .axis) (a .low) (a .high) (p .4) (axis-is (levels - a .below) (p .5)) (p .6) (p .0 .counted) (c .before .before .before .before .before .before .if1 .left) (c .before .before .before .before .before .if2 .left) (c .before .before .before .if3 .left) (c .before .if4 .left) (c .if5 .taken)
+    child-past (a .pool .now) (a .cells) (a .range .now) (a .below) (a .link) (c .before .before .before .before .before .before .before .wide .ensures .0) (a .region) (a .axis) (a .low) (a .high) (p .4) (axis-is (levels - a .below) (p .5)) (p .6) (p .0 .counted) (c .before .before .before .before .before .before .if1 .left) (c .before .before .before .before .before .if2 .left) (c .before .before .before .if3 .left) (c .before .if4 .left) (c .if5 .taken)
 
 enter-sub-visit : (t : ℕ) → enter-lts.Need-sub-visit (enter-calls t) (enter-at t) enter.Post
 enter-sub-visit t c = search needs
@@ -129,7 +129,7 @@ enter-visit-requires t c κs =
     let start = c .before .before .before .before .before .before .before .before .before .before .before .before in
     let a = start .args in
     let p = start .pre .1 in
-    let met = son-meets (a .pool .now) (a .cells) (a .range .now) (a .below) (a .link) (c .before .before .before .before .before .before .before .before .before .wide .ensures .0) (a .region) (a .axis) (a .low) (a .high) (p .4) (axis-is (levels - a .below) (p .5)) (p .6) (c .before .before .before .before .before .if3 .left) (c .before .before .before .if4 .left) in
+    let met = child-meets (a .pool .now) (a .cells) (a .range .now) (a .below) (a .link) (c .before .before .before .before .before .before .before .before .before .wide .ensures .0) (a .region) (a .axis) (a .low) (a .high) (p .4) (axis-is (levels - a .below) (p .5)) (p .6) (c .before .before .before .before .before .if3 .left) (c .before .before .before .if4 .left) in
     (omega arith, (p .0, omega arith, omega arith, c .before .before .if5 .left, p .3, p .4, axis-is (levels - a .below) (p .5), axis-next (a .below) (p .5) (omega arith) (p .1), met))
 
 enter-returns-6 : (t : ℕ) → enter-lts.Need-returns-6 (enter-calls t) (enter-at t) enter.Post
@@ -137,7 +137,7 @@ enter-returns-6 t c =
     let start = c .before .before .before .before .before .before .before .before .before .before .before .before .before in
     let a = start .args in
     let p = start .pre .1 in
-    son-visited (a .pool .now) (a .cells) (a .range .now) (a .below) (a .link) (c .before .before .before .before .before .before .before .before .before .before .wide .ensures .0) (a .region) (a .axis) (a .low) (a .high) (p .4) (axis-is (levels - a .below) (p .5)) (p .6) (p .0 .counted) (c .before .before .before .before .before .before .before .before .before .if1 .left) (c .before .before .before .before .before .before .before .before .if2 .left) (c .before .before .before .before .before .before .if3 .left) (c .before .before .before .before .if4 .left) (c .before .before .before .if5 .left) (c .visit .ensures)
+    child-visited (a .pool .now) (a .cells) (a .range .now) (a .below) (a .link) (c .before .before .before .before .before .before .before .before .before .before .wide .ensures .0) (a .region) (a .axis) (a .low) (a .high) (p .4) (axis-is (levels - a .below) (p .5)) (p .6) (p .0 .counted) (c .before .before .before .before .before .before .before .before .before .if1 .left) (c .before .before .before .before .before .before .before .before .if2 .left) (c .before .before .before .before .before .before .if3 .left) (c .before .before .before .before .if4 .left) (c .before .before .before .if5 .left) (c .visit .ensures)
 
 visit-narrow-requires : (t : ℕ) → visit-lts.Need-narrow-requires (visit-calls t) (visit-at t) visit.Post
 visit-narrow-requires t c κs = search needs
@@ -190,7 +190,7 @@ visit-enter-requires t c κs =
     let tested = c .before .before .before .before .before .before .before in
     let axed = tested .before .before .before in
     let own = axed .before in
-    let shape = subst Shape (sym (own .narrow .ensures)) (narrow-shape (a .father) (a .halved) (a .low) (a .high) (p .5) (p .6)) in
+    let shape = subst Shape (sym (own .narrow .ensures)) (narrow-shape (a .parent) (a .halved) (a .low) (a .high) (p .5) (p .6)) in
     let met = subst (λ (g : Region). meets g (a .range .now) ≡ true) (sym (own .narrow .ensures)) (p .8) in
     (omega arith, (record { few = p .0 .few; long = p .0 .long; counted = tested .test .ensures .counted }, p .1, omega (arith, c .before .before .before .place-of .ensures .1, p .3, p .0 .long), p .4, shape, axed .axis-after .ensures ∙ p .7, met))
 
@@ -202,7 +202,7 @@ visit-returns-2 t c =
     let tested = c .before .before .before .before .before .before .before .before .before in
     let axed = tested .before .before .before in
     let own = axed .before in
-    let shape = subst Shape (sym (own .narrow .ensures)) (narrow-shape (a .father) (a .halved) (a .low) (a .high) (p .5) (p .6)) in
+    let shape = subst Shape (sym (own .narrow .ensures)) (narrow-shape (a .parent) (a .halved) (a .low) (a .high) (p .5) (p .6)) in
     visit-in (a .pool .now) (a .cells) (a .range .now) (a .below) (record { level = levels - a .below; link = a .link }) (a .k) _ _ (own .narrow .ensures)
     (visit-left-cut (a .pool .now) (a .cells) (a .range .now) (a .below) (record { level = levels - a .below; link = a .link }) (a .k) _ _ shape (axed .axis-after .ensures ∙ p .7) (axis-is (levels - a .below) (axed .axis-after .ensures ∙ p .7)) refl refl (tested .test .ensures) (not-false _ (c .before .before .before .before .before .before .before .before .if1 .left)) (c .before .before .before .before .before .place-of .ensures .0) (c .before .before .before .before .lower-end .ensures) (c .before .enter .ensures) (not-true _ (c .if2 .taken)))
 
@@ -220,7 +220,7 @@ visit-enter-requires-2 t c κs =
     let tested = c .before .before .before .before .before .before .before .before .before .before .before .before .before in
     let axed = tested .before .before .before in
     let own = axed .before in
-    let shape = subst Shape (sym (own .narrow .ensures)) (narrow-shape (a .father) (a .halved) (a .low) (a .high) (p .5) (p .6)) in
+    let shape = subst Shape (sym (own .narrow .ensures)) (narrow-shape (a .parent) (a .halved) (a .low) (a .high) (p .5) (p .6)) in
     let met = subst (λ (g : Region). meets g (a .range .now) ≡ true) (sym (own .narrow .ensures)) (p .8) in
     (omega arith, (record { few = p .0 .few; long = p .0 .long; counted = c .before .before .before .before .before .enter .ensures .counted }, p .1, omega (arith, c .before .before .before .place-of2 .ensures .1, p .3, p .0 .long), p .4, shape, axed .axis-after .ensures ∙ p .7, met))
 
@@ -232,7 +232,7 @@ visit-returns-3 t c =
     let tested = c .before .before .before .before .before .before .before .before .before .before .before .before .before .before in
     let axed = tested .before .before .before in
     let own = axed .before in
-    let shape = subst Shape (sym (own .narrow .ensures)) (narrow-shape (a .father) (a .halved) (a .low) (a .high) (p .5) (p .6)) in
+    let shape = subst Shape (sym (own .narrow .ensures)) (narrow-shape (a .parent) (a .halved) (a .low) (a .high) (p .5) (p .6)) in
     visit-in (a .pool .now) (a .cells) (a .range .now) (a .below) (record { level = levels - a .below; link = a .link }) (a .k) _ _ (own .narrow .ensures)
     (visit-whole (a .pool .now) (a .cells) (a .range .now) (a .below) (record { level = levels - a .below; link = a .link }) (a .k) _ _ shape (axed .axis-after .ensures ∙ p .7) (axis-is (levels - a .below) (axed .axis-after .ensures ∙ p .7)) refl refl (tested .test .ensures) (not-false _ (c .before .before .before .before .before .before .before .before .before .before .before .before .before .if1 .left)) (c .before .before .before .before .before .before .before .before .before .before .place-of .ensures .0) (c .before .before .before .before .before .before .before .before .before .lower-end .ensures) (c .before .before .before .before .before .before .enter .ensures) (not-false _ (c .before .before .before .before .before .if2 .left)) (c .before .before .before .before .place-of2 .ensures .0) (c .before .before .before .upper-start .ensures) (c .enter2 .ensures))
 

@@ -15,13 +15,13 @@ element-copy-out-found c = search needs
 returns : tie.Need-returns
 returns c =
     test-full (c .before .before .before .before .args .pool .now) (c .before .before .before .before .args .cells) (c .before .before .before .before .args .range .now) (record { level = c .before .before .before .before .args .level; link = c .before .before .before .before .args .link }) (c .before .before .before .before .args .k) (c .before .before .before .before .args .hits .now) (c .before .before .before .before .pre .0 .few)
-    (c .before .before .before .before .args .tally .now) (c .before .before .before .before .pre .0 .counted) (c .if1 .taken)
+    (c .before .before .before .before .args .counters .now) (c .before .before .before .before .pre .0 .counted) (c .if1 .taken)
 
-add-tally : tie.Need-add-tally
-add-tally c = search needs
+add-counters : tie.Need-add-counters
+add-counters c = search needs
 
-element-write-tally : tie.Need-element-write-tally
-element-write-tally c = search needs
+element-write-counters : tie.Need-element-write-counters
+element-write-counters c = search needs
 
 is-hit-requires : tie.Need-is-hit-requires
 is-hit-requires c κs = search needs
@@ -29,14 +29,14 @@ is-hit-requires c κs = search needs
 returns-2 : tie.Need-returns-2
 returns-2 c =
     test-outside (c .before .before .before .before .before .before .args .pool .now) (c .before .before .before .before .before .before .args .cells) (c .before .before .before .before .before .before .args .range .now) (record { level = c .before .before .before .before .before .before .args .level; link = c .before .before .before .before .before .before .args .link }) (c .before .before .before .before .before .before .args .k) (c .before .before .before .before .before .before .args .hits .now) (c .before .before .before .before .before .before .pre .0 .few)
-    _ (c .before .before .if1 .left) (c .before .before .before .before .before .before .args .tally .now) (c .before .before .before .before .before .before .pre .0 .counted) refl
+    _ (c .before .before .if1 .left) (c .before .before .before .before .before .before .args .counters .now) (c .before .before .before .before .before .before .pre .0 .counted) refl
     (sym (c .before .is-hit .ensures) ∙ sym (Bool·not-not _) ∙ ap not (c .if2 .taken))
 
-add-tally-2 : tie.Need-add-tally-2
-add-tally-2 c = search needs
+add-counters-2 : tie.Need-add-counters-2
+add-counters-2 c = search needs
 
-element-write-tally-2 : tie.Need-element-write-tally-2
-element-write-tally-2 c = search needs
+element-write-counters-2 : tie.Need-element-write-counters-2
+element-write-counters-2 c = search needs
 
 cast-hits : tie.Need-cast-hits
 cast-hits c = search needs
@@ -51,19 +51,19 @@ returns-3 : tie.Need-returns-3
 returns-3 c =
     test-later (c .before .before .before .before .before .before .before .args .pool .now) (c .before .before .before .before .before .before .before .args .cells) (c .before .before .before .before .before .before .before .args .range .now) (record { level = c .before .before .before .before .before .before .before .args .level; link = c .before .before .before .before .before .before .before .args .link }) (c .before .before .before .before .before .before .before .args .k) (c .before .before .before .before .before .before .before .args .hits .now) (c .before .before .before .before .before .before .before .pre .0 .few)
     _ (c .before .before .before .if1 .left) _ (sym (c .before .before .is-hit .ensures) ∙ sym (Bool·not-not _) ∙ ap not (c .before .if2 .left))
-    (c .before .before .before .before .before .before .before .args .tally .now) (c .before .before .before .before .before .before .before .pre .0 .counted) refl refl (c .if3 .taken)
+    (c .before .before .before .before .before .before .before .args .counters .now) (c .before .before .before .before .before .before .before .pre .0 .counted) refl refl (c .if3 .taken)
 
-element-write-tally-3 : tie.Need-element-write-tally-3
-element-write-tally-3 c = search needs
+element-write-counters-3 : tie.Need-element-write-counters-3
+element-write-counters-3 c = search needs
 
-element-write-tally-4 : tie.Need-element-write-tally-4
-element-write-tally-4 c = search needs
+element-write-counters-4 : tie.Need-element-write-counters-4
+element-write-counters-4 c = search needs
 
 returns-4 : tie.Need-returns-4
 returns-4 c =
     test-first (c .before .before .before .before .before .before .before .args .pool .now) (c .before .before .before .before .before .before .before .args .cells) (c .before .before .before .before .before .before .before .args .range .now) (record { level = c .before .before .before .before .before .before .before .args .level; link = c .before .before .before .before .before .before .before .args .link }) (c .before .before .before .before .before .before .before .args .k) (c .before .before .before .before .before .before .before .args .hits .now) (c .before .before .before .before .before .before .before .pre .0 .few)
     _ (c .before .before .before .if1 .left) _ (sym (c .before .before .is-hit .ensures) ∙ sym (Bool·not-not _) ∙ ap not (c .before .if2 .left))
-    (c .before .before .before .before .before .before .before .args .tally .now) (c .before .before .before .before .before .before .before .pre .0 .counted) refl refl (c .if3 .left)
+    (c .before .before .before .before .before .before .before .args .counters .now) (c .before .before .before .before .before .before .before .pre .0 .counted) refl refl (c .if3 .left)
 
 pub test-spec : {M : Type 1} → statement M
 test-spec =
@@ -72,16 +72,16 @@ test-spec =
     element-copy-out-met
     element-copy-out-found
     returns
-    add-tally
-    element-write-tally
+    add-counters
+    element-write-counters
     is-hit-requires
     returns-2
-    add-tally-2
-    element-write-tally-2
+    add-counters-2
+    element-write-counters-2
     cast-hits
     mul-hits
     element-write-hits
     returns-3
-    element-write-tally-3
-    element-write-tally-4
+    element-write-counters-3
+    element-write-counters-4
     returns-4)

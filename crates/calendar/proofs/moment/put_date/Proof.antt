@@ -1,5 +1,5 @@
 -- `moment::put_date` meets its contract: piece by piece. Assumes nothing.
-use Rattle.slip_text.proofs.PutLaws.{put-then}
+use Rattle.text.proofs.PutLaws.{put-then}
 use borrow.Author.Needs.{needs}
 use Rattle.calendar.proofs.moment.put_date.Statement.{statement}
 use Rattle.calendar.proofs.moment.put_date.Tie as tie

@@ -1,6 +1,6 @@
 -- `moment::put_moment` meets its contract: the day, a blank, the time. Assumes nothing.
 use mathlib.Core.Path.{sym}
-use Rattle.slip_text.proofs.PutLaws.{put-then}
+use Rattle.text.proofs.PutLaws.{put-then}
 use borrow.Author.Needs.{needs}
 use Rattle.calendar.proofs.moment.put_moment.Statement.{statement}
 use Rattle.calendar.proofs.moment.put_moment.Tie as tie

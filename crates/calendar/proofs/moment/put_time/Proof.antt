@@ -1,6 +1,6 @@
 -- `moment::put_time` meets its contract: piece by piece. Assumes nothing.
 use mathlib.Core.Path.{sym}
-use Rattle.slip_text.proofs.PutLaws.{put-then}
+use Rattle.text.proofs.PutLaws.{put-then}
 use borrow.Author.Needs.{needs}
 use Rattle.calendar.proofs.moment.put_time.Statement.{statement}
 use Rattle.calendar.proofs.moment.put_time.Tie as tie

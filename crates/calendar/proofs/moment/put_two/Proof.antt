@@ -1,5 +1,5 @@
 -- `moment::put_two` meets its contract: one digit after the other. Assumes nothing.
-use Rattle.slip_text.proofs.PutLaws.{put-then}
+use Rattle.text.proofs.PutLaws.{put-then}
 use borrow.Author.Needs.{needs}
 use Rattle.calendar.proofs.moment.put_two.Statement.{statement}
 use Rattle.calendar.proofs.moment.put_two.Tie as tie

@@ -1,17 +1,17 @@
--- `load::add_all` meets its contract. The invariant: the grants from the i-th on, hung now, give what all give. Assumes nothing.
+-- `load::add_all` meets its contract. The invariant: the grants from the i-th on, added now, give what all give. Assumes nothing.
 use Prim.Native.Nat.{_-_}
 use mathlib.Core.Path.{_≡_, refl, sym, _∙_}
 use native.Mathlib.Omega.{arith}
 use lib.ListN.{length, drop}
 use Rattle.grants_file.specs.File.{grantsIn}
-use Rattle.index.specs.Plans.{hungAll}
-use Rattle.file_calls.proofs.LoadSteps.{hung-more, hung-all}
+use Rattle.index.specs.Plans.{addedAll}
+use Rattle.file_calls.proofs.LoadSteps.{added-more, added-all}
 use borrow.Author.Needs.{needs}
 use Rattle.file_calls.proofs.load.add_all.Statement.{statement}
 use Rattle.file_calls.proofs.load.add_all.Tie as tie
 
 abbrev Inv-loop : tie.InvT-loop
-Inv-loop pool₀ file cells total i₀ pool i = (length pool ≡ length pool₀) × (hungAll pool (drop i (grantsIn file)) ≡ hungAll pool₀ (grantsIn file))
+Inv-loop pool₀ file cells total i₀ pool i = (length pool ≡ length pool₀) × (addedAll pool (drop i (grantsIn file)) ≡ addedAll pool₀ (grantsIn file))
 
 abbrev μ-loop : tie.MeasureT-loop
 μ-loop pool₀ file cells total i₀ pool i = total - i
@@ -41,7 +41,7 @@ loop-again c =
     let added = c .before .before in
     let at = added .before .before .before .before in (
       added .add .kept .0 ∙ at .loop .inv .0,
-      hung-more _ (at .loop .pool) _ (at .loop .i) (added .before .grant-in .ensures) (added .add .ensures) ∙ at .loop .inv .1,
+      added-more _ (at .loop .pool) _ (at .loop .i) (added .before .grant-in .ensures) (added .add .ensures) ∙ at .loop .inv .1,
     )
 
 same-length : tie.Need-same-length Inv-loop μ-loop
@@ -51,7 +51,7 @@ returns : tie.Need-returns Inv-loop μ-loop
 returns c =
     let l = c .before .loop in
     let start = c .before .before .before .before in
-    sym (hung-all (start .args .file .now) (l .pool) (l .i) (omega (arith, start .pre .2))) ∙ l .inv .1
+    sym (added-all (start .args .file .now) (l .pool) (l .i) (omega (arith, start .pre .2))) ∙ l .inv .1
 
 pub add-all-spec : {M : Type 1} → statement M
 add-all-spec =

@@ -5,7 +5,7 @@ use native.Mathlib.Omega.{arith}
 use mathlib.Core.List.{List}
 use Rattle.grants_file.specs.File.{grantsIn}
 use Rattle.grants_file.proofs.GrantSteps.{accepted-whole}
-use Rattle.index.specs.Plans.{hungAll}
+use Rattle.index.specs.Plans.{addedAll}
 use Rattle.index.proofs.RefusalSteps.{length-taken}
 use Rattle.file_calls.proofs.LoadSteps.{load-accepted, load-bad, load-file, load-full, load-done}
 use borrow.Author.Needs.{needs}
@@ -98,7 +98,7 @@ returns-4 c =
     let start = known .before .before in
     load-done (start .args .pool .now) _ (some .before .length-capacity .ensures) (some .if1 .left) (judged .judge .ensures) (told .enum-told .given .1) (counted .total-in .ensures .0) (few .if2 .left)
     (λ i. omega (arith, known .shared-slice-known .given i))
-    (added .add-all .ensures ∙ ap (λ (w : List ℕ). hungAll w (grantsIn (start .args .file .now))) (made .make-fresh .ensures))
+    (added .add-all .ensures ∙ ap (λ (w : List ℕ). addedAll w (grantsIn (start .args .file .now))) (made .make-fresh .ensures))
 
 pub load-spec : {M : Type 1} → statement M
 load-spec =

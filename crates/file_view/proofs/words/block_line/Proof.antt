@@ -1,7 +1,7 @@
 -- `words::block_line` meets its contract. Assumes nothing.
 use native.Mathlib.Omega.{arith}
 use borrow.Author.Needs.{needs}
-use Rattle.slip_text.proofs.PutLaws.{put-then, put-line}
+use Rattle.text.proofs.PutLaws.{put-then, put-line}
 use Rattle.file_view.proofs.words.block_line.Statement.{statement}
 use Rattle.file_view.proofs.words.block_line.Tie as tie
 

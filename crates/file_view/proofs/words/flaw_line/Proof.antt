@@ -1,7 +1,7 @@
 -- `words::flaw_line` meets its contract, flaw by flaw. Assumes nothing.
 use native.Mathlib.Omega.{arith}
 use borrow.Author.Needs.{needs}
-use Rattle.slip_text.proofs.PutLaws.{put-line}
+use Rattle.text.proofs.PutLaws.{put-line}
 use Rattle.file_view.proofs.words.flaw_line.Statement.{statement}
 use Rattle.file_view.proofs.words.flaw_line.Tie as tie
 

@@ -1,7 +1,7 @@
 -- `words::pair_line` meets its contract. Assumes nothing.
 use native.Mathlib.Omega.{arith}
 use borrow.Author.Needs.{needs}
-use Rattle.slip_text.proofs.PutLaws.{put-then, put-line}
+use Rattle.text.proofs.PutLaws.{put-then, put-line}
 use Rattle.file_view.proofs.words.pair_line.Statement.{statement}
 use Rattle.file_view.proofs.words.pair_line.Tie as tie
 

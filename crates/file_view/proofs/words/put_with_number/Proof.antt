@@ -3,9 +3,9 @@ use Prim.Native.Nat.{_≤_}
 use native.Mathlib.Omega.{arith}
 use lib.ListN.{length}
 use borrow.Author.Needs.{needs}
-use Rattle.slip_text.specs.Numeral.{numeral}
-use Rattle.slip_text.proofs.NumeralLaws.{numeral-few}
-use Rattle.slip_text.proofs.PutLaws.{put-then}
+use Rattle.text.specs.Numeral.{numeral}
+use Rattle.text.proofs.NumeralLaws.{numeral-few}
+use Rattle.text.proofs.PutLaws.{put-then}
 use Rattle.file_view.proofs.words.put_with_number.Statement.{statement}
 use Rattle.file_view.proofs.words.put_with_number.Tie as tie
 

@@ -5,9 +5,9 @@ use Rattle.model.specs.declared.Grant.{Grant}
 use Rattle.model.specs.Kind.{kindNumber}
 use Rattle.model.specs.Call.{request}
 use Rattle.adt.specs.Insert.{inserted}
-use Rattle.index.specs.FileCalls.{requestOf}
-use Rattle.index.proofs.PlanLaws.{planned-as, plan-inserts, hung-refused, hung-done}
-use Rattle.index.proofs.LoadLaws.{requested-requestOf}
+use Rattle.calls.specs.FileCalls.{requestOf}
+use Rattle.index.proofs.PlanLaws.{planned-as, plan-inserts, added-refused, added-done}
+use Rattle.calls.proofs.LoadLaws.{requested-requestOf}
 use borrow.Author.Needs.{needs}
 use Rattle.index.proofs.add.add.Statement.{statement}
 use Rattle.index.proofs.add.add.Tie as tie
@@ -42,7 +42,7 @@ returns c =
     let planned = c .before .before in
     let kinded = planned .before in
     let start = kinded .before .before .before in
-    hung-refused (start .args .pool .now) (requestOf (start .args .g)) _ (planned-as (start .args .pool .now) (same-request (start .args .g) (kinded .kind-number .ensures .0)) (c .enum-told .given .1) (planned .plan-slot .ensures))
+    added-refused (start .args .pool .now) (requestOf (start .args .g)) _ (planned-as (start .args .pool .now) (same-request (start .args .g) (kinded .kind-number .ensures .0)) (c .enum-told .given .1) (planned .plan-slot .ensures))
 
 same-length-2 : tie.Need-same-length-2
 same-length-2 c = search needs
@@ -54,7 +54,7 @@ returns-2 c =
     let kinded = planned .before in
     let start = kinded .before .before .before in
     let g = start .args .g in
-    hung-done (start .args .pool .now) (requestOf g) _ _ _ (planned-as (start .args .pool .now) (same-request g (kinded .kind-number .ensures .0)) (stored .before .before .before .plan .given .1) (planned .plan-slot .ensures))
+    added-done (start .args .pool .now) (requestOf g) _ _ _ (planned-as (start .args .pool .now) (same-request g (kinded .kind-number .ensures .0)) (stored .before .before .before .plan .given .1) (planned .plan-slot .ensures))
     (stored .insert .ensures ∙ ap (inserted (start .args .pool .now) _) (sym (requested-requestOf g)))
 
 pub add-spec : {M : Type 1} → statement M

@@ -1,6 +1,6 @@
 -- `grant::grant` meets its contract: it refuses, or stores what was planned. Assumes nothing.
 use Rattle.index.proofs.PlanLaws.{grant-refused, grant-done, plan-inserts}
-use Rattle.index.specs.Calls.{grantLine}
+use Rattle.calls.specs.Calls.{grantLine}
 use Rattle.index.specs.Plans.{InsertionPlanned}
 use Rattle.adt.specs.Insert.{inserted}
 use mathlib.Core.Path.{_≡_, subst, ap, _∙_}

@@ -1,8 +1,8 @@
 -- `revoke::plan_removal` meets its contract, in the order of revoke's line. Assumes nothing.
 use Rattle.index.proofs.RefusalSteps.{pool-refused, pool-taken}
-use Rattle.index.proofs.PlanLaws.{sized, hit-within, revoke-pool, revoke-zero, revoke-broken, revoke-absent, revoke-lost, revoke-planned}
+use Rattle.index.proofs.PlanLaws.{sized, hit-within, revoke-pool, revoke-zero, revoke-broken, revoke-absent, revoke-removal-broken, revoke-planned}
 use Rattle.index.specs.NumberSearch.{NumberFound}
-use Rattle.adt.specs.WalkResult.{descentOf}
+use Rattle.adt.specs.WalkResult.{removalWalkOf}
 use native.Mathlib.Omega.{arith}
 use mathlib.Core.Path.{_≡_, sym, ap, subst, _∙_}
 use borrow.Author.Needs.{needs}
@@ -57,12 +57,12 @@ returns-4 c = revoke-absent (c .before .before .before .before .before .before .
 returns-5 : tie.Need-returns-5
 returns-5 c =
     let t = pool-taken (c .before .before .before .before .before .before .before .before .before .before .before .args .pool .now) (c .before .before .before .before .before .before .before .before .before .capacity .ensures) (c .before .before .before .before .before .before .before .before .if1 .left) in
-    revoke-lost (c .before .before .before .before .before .before .before .before .before .before .before .args .pool .now) _ (t .right) (c .before .before .before .before .before .before .before .if2 .left) (sized t) _ _ _ (subst (NumberFound (c .before .before .before .before .before .before .before .before .before .before .before .args .pool .now) (c .before .before .before .before .before .before .before .before .before .before .before .args .number)) (c .before .before .before .before .hit .given .1) (c .before .before .before .before .before .before .find-number .ensures)) (ap descentOf (sym (c .enum-told3 .given .1)) ∙ c .before .before .find-terminal .ensures)
+    revoke-removal-broken (c .before .before .before .before .before .before .before .before .before .before .before .args .pool .now) _ (t .right) (c .before .before .before .before .before .before .before .if2 .left) (sized t) _ _ _ (subst (NumberFound (c .before .before .before .before .before .before .before .before .before .before .before .args .pool .now) (c .before .before .before .before .before .before .before .before .before .before .before .args .number)) (c .before .before .before .before .hit .given .1) (c .before .before .before .before .before .before .find-number .ensures)) (ap removalWalkOf (sym (c .enum-told3 .given .1)) ∙ c .before .before .find-terminal .ensures)
 
 returns-6 : tie.Need-returns-6
 returns-6 c =
     let t = pool-taken (c .before .before .before .before .before .before .before .before .before .before .before .before .args .pool .now) (c .before .before .before .before .before .before .before .before .before .before .capacity .ensures) (c .before .before .before .before .before .before .before .before .before .if1 .left) in
-    revoke-planned (c .before .before .before .before .before .before .before .before .before .before .before .before .args .pool .now) _ (t .right) (c .before .before .before .before .before .before .before .before .if2 .left) (sized t) _ _ _ (subst (NumberFound (c .before .before .before .before .before .before .before .before .before .before .before .before .args .pool .now) (c .before .before .before .before .before .before .before .before .before .before .before .before .args .number)) (c .before .before .before .before .before .hit .given .1) (c .before .before .before .before .before .before .before .find-number .ensures)) _ _ (ap descentOf (sym (c .before .end .given .1)) ∙ c .before .before .before .find-terminal .ensures)
+    revoke-planned (c .before .before .before .before .before .before .before .before .before .before .before .before .args .pool .now) _ (t .right) (c .before .before .before .before .before .before .before .before .if2 .left) (sized t) _ _ _ (subst (NumberFound (c .before .before .before .before .before .before .before .before .before .before .before .before .args .pool .now) (c .before .before .before .before .before .before .before .before .before .before .before .before .args .number)) (c .before .before .before .before .before .hit .given .1) (c .before .before .before .before .before .before .before .find-number .ensures)) _ _ (ap removalWalkOf (sym (c .before .end .given .1)) ∙ c .before .before .before .find-terminal .ensures)
 
 pub plan-removal-spec : {M : Type 1} → statement M
 plan-removal-spec =

@@ -1,6 +1,6 @@
 -- `rows::print_times` meets its contract: piece by piece. Assumes nothing.
 use native.Mathlib.Omega.{arith}
-use Rattle.slip_text.proofs.PutLaws.{put-then, put-line}
+use Rattle.text.proofs.PutLaws.{put-then, put-line}
 use borrow.Author.Needs.{needs}
 use Rattle.panel.proofs.rows.print_times.Statement.{statement}
 use Rattle.panel.proofs.rows.print_times.Tie as tie

@@ -2,8 +2,8 @@
 use mathlib.Core.Path.{ap}
 use native.Mathlib.Omega.{arith}
 use Rattle.panel.specs.Rows.{shownBase, momentColumn}
-use Rattle.panel.proofs.RowLaws.{put-as}
-use Rattle.slip_text.proofs.PutLaws.{put-then, put-line}
+use Rattle.text.proofs.PutLaws.{put-as}
+use Rattle.text.proofs.PutLaws.{put-then, put-line}
 use borrow.Author.Needs.{needs}
 use Rattle.panel.proofs.rows.touching_row.Statement.{statement}
 use Rattle.panel.proofs.rows.touching_row.Tie as tie
@@ -38,16 +38,16 @@ put-text-requires-2 c κs = search needs
 put-kind-requires : tie.Need-put-kind-requires
 put-kind-requires c κs = search needs
 
-put-standing-requires : tie.Need-put-standing-requires
-put-standing-requires c κs = search needs
+put-precedence-requires : tie.Need-put-precedence-requires
+put-precedence-requires c κs = search needs
 
 put-byte-requires : tie.Need-put-byte-requires
 put-byte-requires c κs = search needs
 
 returns : tie.Need-returns
 returns c =
-    let standing = c .before .before in
-    let kind = standing .before .before in
+    let precedence = c .before .before in
+    let kind = precedence .before .before in
     let second = kind .before .before in
     let moment = second .before .before .before in
     let first = moment .before .before .before in
@@ -55,8 +55,8 @@ returns c =
     let args = columns .before .before .before .before .before .args in
     let until = put-as (ap (momentColumn (shownBase (args .base))) (moment .before .quarter-after .ensures .0)) (moment .put-moment-column .ensures .0) in
     put-line
-    (put-then (put-then (put-then (put-then (put-then (put-then (columns .put-columns .ensures .0) (first .put-text .ensures)) until) (second .put-text2 .ensures)) (kind .put-kind .ensures .0)) (standing .put-standing .ensures .0)) (c .put-byte .ensures))
-    (omega (arith, columns .put-columns .ensures .1, first .put-text .ensures .ends, moment .put-moment-column .ensures .1, second .put-text2 .ensures .ends, kind .put-kind .ensures .1, standing .put-standing .ensures .1, c .put-byte .ensures .ends, c .put-byte .kept .0, c .before .put-byte-arg .given))
+    (put-then (put-then (put-then (put-then (put-then (put-then (columns .put-columns .ensures .0) (first .put-text .ensures)) until) (second .put-text2 .ensures)) (kind .put-kind .ensures .0)) (precedence .put-precedence .ensures .0)) (c .put-byte .ensures))
+    (omega (arith, columns .put-columns .ensures .1, first .put-text .ensures .ends, moment .put-moment-column .ensures .1, second .put-text2 .ensures .ends, kind .put-kind .ensures .1, precedence .put-precedence .ensures .1, c .put-byte .ensures .ends, c .put-byte .kept .0, c .before .put-byte-arg .given))
 
 pub touching-row-spec : {M : Type 1} → statement M
 touching-row-spec =
@@ -72,6 +72,6 @@ touching-row-spec =
     slice-aggregate-put-text-2
     put-text-requires-2
     put-kind-requires
-    put-standing-requires
+    put-precedence-requires
     put-byte-requires
     returns)

@@ -22,15 +22,15 @@ wide-requires c κs = search needs
 grant-at-requires : tie.Need-grant-at-requires
 grant-at-requires c κs = cell-hit (c .before .before .before .before .pre) (c .before .before .if1 .left) (c .wide .ensures .0)
 
-standing-among-requires : tie.Need-standing-among-requires
-standing-among-requires c κs = search needs
+precedence-among-requires : tie.Need-precedence-among-requires
+precedence-among-requires c κs = search needs
 
 returns-2 : tie.Need-returns-2
 returns-2 c =
     let found = c .before in
     let some = found .before .before .before in
     let start = some .before .before in
-    placed-at _ _ (start .pre) (start .args .i) (some .if1 .left) (found .before .wide .ensures .0) (found .grant-at .ensures) (c .standing-among .ensures)
+    placed-at _ _ (start .pre) (start .args .i) (some .if1 .left) (found .before .wide .ensures .0) (found .grant-at .ensures) (c .precedence-among .ensures)
 
 pub placed-spec : {M : Type 1} → statement M
 placed-spec =
@@ -41,5 +41,5 @@ placed-spec =
     element-copy-out-wide
     wide-requires
     grant-at-requires
-    standing-among-requires
+    precedence-among-requires
     returns-2)

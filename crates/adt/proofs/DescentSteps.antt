@@ -1,0 +1,128 @@
+-- The way down, the removal walk and the stores of a removal, step by step, as the code makes them.
+--   descent-end, descent-blank, descent-above, descent-full, descent-next                   of `descendFrom`
+--   follow-terminal, follow-deep, follow-above, follow-full, follow-next   of `follow`
+--   next-right, next-left                                               of `nextLink`
+--   replace-steps, remove-terminal, remove-other, length-freed          of `replaced`, `removed` and `freed`
+-- Assumes nothing.
+use Prim.Native.Nat.{ℕ, zero, suc, _+_, _-_, _<_, _≤_}
+use mathlib.Core.Path.{_≡_, refl, sym, ap, _∙_}
+use mathlib.Core.Bool.{cond, _&&_}
+use mathlib.Core.List.{List}
+use native.Mathlib.Numerals.{add-one, sub-one}
+use native.Mathlib.Omega.{arith}
+use lib.Dec.{leb, ltb, eqb}
+use lib.ListN.{length, getD, set, length-set}
+use borrow.Author.Tests.{le-leb, lt-leb, lt-ltb, le-ltb, eq-eqb, ne-eqb}
+use Rattle.geometry.specs.declared.Side.{Side}
+use Rattle.geometry.specs.declared.Side.the-variants.{Left, Right}
+use Rattle.geometry.specs.Axis.{axisOf}
+use Rattle.geometry.specs.Levels.{levels}
+use Rattle.geometry.specs.Region.{Region, sideOf, half}
+use Rattle.pool.specs.declared.Field.the-variants as field
+use Rattle.pool.specs.Layout.{place, fieldOf}
+use Rattle.pool.proofs.CellLaws.{length-withCell}
+use Rattle.adt.specs.Node.{linkPlace}
+use Rattle.adt.specs.Insert.{InsertionWalk, blankAt, descendFrom}
+use Rattle.adt.specs.Insert as insert
+use Rattle.adt.specs.Remove.{RemovalWalk, terminal, nextLink, follow, replaced, unlinked, freed, removed}
+use Rattle.adt.specs.Remove as remove
+
+module _ (w : List ℕ) (c : ℕ) (p : List ℕ) (n link : ℕ) (g : Region) (met : ℕ) where
+  pub descent-end : n ≤ 0 → insert.broken ≡ descendFrom w c p n link g met
+  unfolding descendFrom
+  descent-end h = go n h
+    where
+      go : (n : ℕ) → n ≤ 0 → insert.broken ≡ descendFrom w c p n link g met
+      go zero h = refl
+      go (suc n) h = absurd (omega arith)
+
+  module _ (k : ℕ) (some : 0 < n) (e : k ≡ getD w link 0) where
+    -- the rest of the way, along the child on the side that holds the point
+    abbrev onward : ℕ → Side → InsertionWalk
+    onward a s = descendFrom w c p (n - 1) (linkPlace k s) (half s g a) (met + 1)
+
+    -- the way goes on, or ends, by the tests of k
+    descent-cases : {a : ℕ} {s : Side} → a ≡ axisOf (levels - (n - 1)) → s ≡ sideOf g a (getD p a 0)
+        → cond (eqb k 0) (blankAt link) (cond (leb k c && ltb met c) (onward a s) insert.broken) ≡ descendFrom w c p n link g met
+    unfolding descendFrom
+    descent-cases ea es = go n some ea es
+      where
+        go : (n : ℕ) → 0 < n → {a : ℕ} {s : Side} → a ≡ axisOf (levels - (n - 1)) → s ≡ sideOf g a (getD p a 0)
+            → cond (eqb k 0) (blankAt link) (cond (leb k c && ltb met c) (descendFrom w c p (n - 1) (linkPlace k s) (half s g a) (met + 1)) insert.broken)
+            ≡ descendFrom w c p n link g met
+        go zero h ea es = absurd (omega arith)
+        go (suc n) h ea es = rw (es, ea, ← e, sub-one (suc n), add-one met)
+
+    pub descent-blank : k ≡ 0 → blankAt link ≡ descendFrom w c p n link g met
+    descent-blank z = rw (eq-eqb k 0 z) at (descent-cases refl refl)
+
+    module _ (nz : ¬ (k ≡ 0)) where
+      pub descent-above : c < k → insert.broken ≡ descendFrom w c p n link g met
+      descent-above h = rw (ne-eqb k 0 nz, lt-leb k c h) at (descent-cases refl refl)
+
+      module _ (le : k ≤ c) where
+        pub descent-full : c ≤ met → insert.broken ≡ descendFrom w c p n link g met
+        descent-full h = rw (ne-eqb k 0 nz, le-leb k c le, le-ltb met c h) at (descent-cases refl refl)
+
+        pub descent-next : met < c → {a link′ : ℕ} {s : Side} {g′ : Region} → a ≡ axisOf (levels - (n - 1)) → s ≡ sideOf g a (getD p a 0)
+            → g′ ≡ half s g a → link′ ≡ linkPlace k s → descendFrom w c p (n - 1) link′ g′ (met + 1) ≡ descendFrom w c p n link g met
+        descent-next h ea es eg el = rw (eg, el) (rw (ne-eqb k 0 nz, le-leb k c le, lt-ltb met c h) at (descent-cases ea es))
+
+module _ (w : List ℕ) (c n k link met : ℕ) (at next : ℕ) (ea : at ≡ nextLink w k) (e : next ≡ getD w at 0) where
+  pub follow-terminal : next ≡ 0 → terminal k link ≡ follow w c n k link met
+  unfolding follow
+  follow-terminal z = go n
+    where
+      go : (n : ℕ) → terminal k link ≡ follow w c n k link met
+      go zero = rw (← ea, ← e, eq-eqb next 0 z)
+      go (suc n) = rw (← ea, ← e, eq-eqb next 0 z)
+
+  module _ (nz : ¬ (next ≡ 0)) where
+    pub follow-deep : n ≡ 0 → remove.broken ≡ follow w c n k link met
+    unfolding follow
+    follow-deep z = rw (z, ← ea, ← e, ne-eqb next 0 nz)
+
+    module _ (some : ¬ (n ≡ 0)) where
+      follow-cases : cond (leb next c && ltb met c) (follow w c (n - 1) next at (met + 1)) remove.broken ≡ follow w c n k link met
+      unfolding follow
+      follow-cases = go n some
+        where
+          go : (n : ℕ) → ¬ (n ≡ 0) → cond (leb next c && ltb met c) (follow w c (n - 1) next at (met + 1)) remove.broken ≡ follow w c n k link met
+          go zero h = absurd (h refl)
+          go (suc n) h = rw (← ea, ← e, ne-eqb next 0 nz, sub-one (suc n), add-one met)
+
+      pub follow-above : c < next → remove.broken ≡ follow w c n k link met
+      follow-above h = rw (lt-leb next c h) at follow-cases
+
+      module _ (le : next ≤ c) where
+        pub follow-full : c ≤ met → remove.broken ≡ follow w c n k link met
+        follow-full h = rw (le-leb next c le, le-ltb met c h) at follow-cases
+
+        pub follow-next : met < c → follow w c (n - 1) next at (met + 1) ≡ follow w c n k link met
+        follow-next h = rw (le-leb next c le, lt-ltb met c h) at follow-cases
+
+-- left where that is not blank, else right
+module _ (w : List ℕ) (k left : ℕ) (el : left ≡ linkPlace k Left) where
+  pub next-right : {right : ℕ} → getD w left 0 ≡ 0 → right ≡ linkPlace k Right → right ≡ nextLink w k
+  next-right z er = rw (er, ← el, eq-eqb (getD w left 0) 0 z)
+
+  pub next-left : ¬ (getD w left 0 ≡ 0) → left ≡ nextLink w k
+  next-left n = rw (← el, ne-eqb (getD w left 0) 0 n)
+
+-- the stores of a removal, one after the other
+pub replace-steps : (w : List ℕ) (k link leaf cut : ℕ) {l r : ℕ} {v u : List ℕ} → l ≡ fieldOf (set w cut 0) k field.Left → r ≡ fieldOf (set w cut 0) k field.Right
+    → v ≡ set (set w cut 0) (place leaf field.Left) l → u ≡ set v (place leaf field.Right) r → set u link leaf ≡ replaced w k link leaf cut
+unfolding replaced fieldOf
+replace-steps w k link leaf cut el er ev eu = rw (eu, ev, el, er)
+
+pub remove-terminal : (w : List ℕ) (k link leaf cut : ℕ) {v : List ℕ} → leaf ≡ k → v ≡ freed (set w link 0) k → v ≡ removed w k link leaf cut
+unfolding removed unlinked
+remove-terminal w k link leaf cut e f = f ∙ rw (eq-eqb leaf k e)
+
+pub remove-other : (w : List ℕ) (k link leaf cut : ℕ) {u v : List ℕ} → ¬ (leaf ≡ k) → u ≡ replaced w k link leaf cut → v ≡ freed u k → v ≡ removed w k link leaf cut
+unfolding removed unlinked
+remove-other w k link leaf cut n e f = f ∙ rw (e, ne-eqb leaf k n)
+
+pub length-freed : (w : List ℕ) (k : ℕ) → length (freed w k) ≡ length w
+unfolding freed
+length-freed w k = simp (length-set, length-withCell)

@@ -1,0 +1,48 @@
+-- Grant's way down that stops and document 01's links of it are one way: it is broken exactly where they are broken.
+--   brokenInsertion          a way as a test
+--   descendFrom-broken     from any link on the way
+--   descend-broken     the whole way of a point
+-- Assumes nothing.
+use Prim.Native.Nat.{ℕ, zero, suc, _+_, _-_, _≤_}
+use mathlib.Core.Path.{_≡_, refl, sym, ap}
+use mathlib.Core.Bool.{Bool, true, false, cond}
+use mathlib.Core.List.{List, []}
+use lib.Dec.{eqb}
+use lib.ListN.{getD}
+use native.Mathlib.Omega.{arith}
+use Rattle.geometry.specs.Axis.{axisOf}
+use Rattle.geometry.specs.Levels.{levels}
+use Rattle.geometry.specs.Region.{Region, rootRegion, sideOf, half}
+use Rattle.pool.specs.Layout.{rootPlace}
+use Rattle.pool.specs.Capacity.{capacityOf}
+use Rattle.adt.specs.Node.{linkPlace}
+use Rattle.adt.specs.Insert.{InsertionWalk, broken, blankAt, descendFrom, descend}
+use Rattle.adt.specs.Links.{Link, brokenBy, insertionFrom, insertionLinks}
+use Rattle.adt.proofs.LinkLaws.{brokenBy-deep, brokenBy-blank, brokenBy-next}
+
+abbrev pub brokenInsertion : InsertionWalk → Bool
+brokenInsertion broken = true
+brokenInsertion (blankAt at) = false
+
+brokenInsertion-cond : (b : Bool) (x y : InsertionWalk) → brokenInsertion (cond b x y) ≡ cond b (brokenInsertion x) (brokenInsertion y)
+brokenInsertion-cond true x y = refl
+brokenInsertion-cond false x y = refl
+
+-- n levels are left below the parent, so the link leads to the level l
+pub descendFrom-broken : (w : List ℕ) (c : ℕ) (p : List ℕ) (n l at : ℕ) (g : Region) (met : ℕ) → l + n ≡ suc levels → met ≤ c
+    → brokenInsertion (descendFrom w c p n at g met) ≡ brokenBy c met (insertionFrom w p n l at g)
+unfolding descendFrom insertionFrom
+descendFrom-broken w c p zero l at g met depth few = sym (brokenBy-deep c met (record { level = l; to = getD w at 0 }) [] (omega arith))
+descendFrom-broken w c p (suc n) l at g met depth few =
+    let k = getD w at 0 in
+    let a = axisOf l in
+    let s = sideOf g a (getD p a 0) in
+    let level : levels - n ≡ l = omega arith in
+    let rest = descendFrom-broken w c p n (suc l) (linkPlace k s) (half s g a) (suc met) (omega arith) in
+    let here : Link = record { level = l; to = k } in
+    rw (level, brokenInsertion-cond, brokenInsertion-cond, brokenBy-blank)
+    (ap (cond (eqb k 0) false) (brokenBy-next c met here (insertionFrom w p n (suc l) (linkPlace k s) (half s g a)) _ (omega arith) rest))
+
+pub descend-broken : (w p : List ℕ) → brokenInsertion (descend w p) ≡ brokenBy (capacityOf w) 0 (insertionLinks w p)
+unfolding descend insertionLinks
+descend-broken w p = descendFrom-broken w (capacityOf w) p (suc levels) 0 rootPlace rootRegion 0 refl (omega arith)

@@ -1,0 +1,61 @@
+-- Packed answers read back (specs/Reads).
+--   reads-word     a word's three parts, where they fit their bits
+--   reads-back     the claim
+-- Assumes nothing.
+use Prim.Native.Nat.{ℕ, _+_, _*_, _<_}
+use mathlib.Core.Path.{_≡_, refl}
+use mathlib.Core.Bool.{Bool, true, false, cond}
+use mathlib.Core.List.{List}
+use native.Mathlib.Omega.{arith}
+use lib.Dec.{eqb, lit<}
+use lib.ListN.{length}
+use borrow.Author.Tests.{eqb-true, eqb-false}
+use Rattle.grants_file.specs.Block.{blockBytes, recordsPlace}
+use Rattle.grants_file.specs.BlockRead.{partOf}
+use Rattle.c_api.specs.Pack.{numberValues, aValues, bValues, word, firstOf, packRefusal, packPart}
+use Rattle.claims.specs.PackedFits.{FitsRefusal, FitsPart}
+use Rattle.claims.specs.PackedReads.{Reads, ReadsBack}
+use Rattle.c_api.proofs.PackLaws.{number-word, a-word, b-word}
+
+pub reads-word : (number a b : ℕ) → number < numberValues → a < aValues → b < bValues → Reads (word number a b) number a b
+reads-word number a b n k m =
+    record { number-read = number-word number a b n k m; a-read = a-word number a b n k m; b-read = b-word number a b n k m }
+
+refusal-reads : (number : ℕ) (values : List ℕ) → FitsRefusal number values
+    → Reads (packRefusal number values) number (cond (eqb number 8) (firstOf values) 0) (cond (eqb number 8) 0 (firstOf values))
+refusal-reads number values h = go (eqb number 8) (h .value)
+  where
+    v : ℕ
+    v = firstOf values
+
+    go : (eight : Bool) → v < cond eight aValues bValues
+        → Reads (cond eight (word number v 0) (word number 0 v)) number (cond eight v 0) (cond eight 0 v)
+    go true k = reads-word number v 0 (h .few) k (lit< tt)
+    go false k = reads-word number 0 v (h .few) (lit< tt) k
+
+part-reads : (f : List ℕ) (i : ℕ) → FitsPart f i
+    → Reads (packPart f i) 0 (length (partOf f i)) (cond (eqb (length (partOf f i)) 0) 0 (blockBytes * i + recordsPlace))
+unfolding packPart
+part-reads f i h = go (eqb size 0) refl
+  where
+    size : ℕ
+    size = length (partOf f i)
+
+    place : ℕ
+    place = blockBytes * i + recordsPlace
+
+    go : (empty : Bool) → eqb size 0 ≡ empty → Reads (cond empty (word 0 0 0) (word 0 size place)) 0 size (cond empty 0 place)
+    go true e = rw (eqb-true size 0 e) (reads-word 0 0 0 (lit< tt) (lit< tt) (lit< tt))
+    go false e =
+        let some : 0 < size = omega (arith, eqb-false size 0 e) in
+        reads-word 0 size place (lit< tt) (h .size) (h .place some)
+
+pub reads-back : ReadsBack
+reads-back =
+    record {
+      refusals = refusal-reads;
+      values = λ values h. reads-word 0 _ 0 (lit< tt) h (lit< tt);
+      pairs = λ values h. reads-word 0 _ _ (lit< tt) (h .0) (h .1);
+      lengths = λ values h. reads-word 0 0 _ (lit< tt) (lit< tt) h;
+      parts = part-reads;
+    }

@@ -1,0 +1,57 @@
+-- On words that stand for a plain book, the panel shows the live grants that hold the door and the quarter.
+--   grants-touching    they are what the search hits, ascending by number
+--   shows-touching     and what is shown row by row
+--   touching-claim     so it is after any calls (specs/Claim)
+-- Assumes nothing.
+use Prim.Native.Nat.{ℕ}
+use mathlib.Core.Path.{_≡_, refl, ap, _∙_}
+use mathlib.Core.List.{List, List·Memᴰ·head}
+use native.Mathlib.Omega.{arith}
+use borrow.Author.Tests.{le-leb}
+use Rattle.lists.specs.Tests.{filter}
+use Rattle.lists.proofs.TestLaws.{filter-same}
+use Rattle.model.specs.declared.Grant.{Grant}
+use Rattle.model.specs.Overlap.{overlaps}
+use Rattle.model.specs.Values.{GrantFits}
+use Rattle.model.specs.Refusal.{firstFault}
+use Rattle.model.specs.Book.{Book}
+use Rattle.geometry.specs.SearchRange.{rangeOfBox}
+use Rattle.geometry.proofs.SearchRangeLaws.{box-hits}
+use Rattle.calls.specs.Walks.{boxSearch}
+use Rattle.calls.specs.Order.{lookOrder}
+use Rattle.calls.proofs.Represents.{Represents, represents-pool, represents-live, represents-fits, Hits, represents-hits}
+use Rattle.calls.proofs.LoadLaws.{load-represents}
+use Rattle.claims.proofs.Answers.{represents-calls, memory-sized, calls-represent}
+use Rattle.panel.specs.Touching.{doorBox, grantsTouching, placed, touchingAt}
+use Rattle.claims.specs.PanelClaims.{atDoor, ShowsTouching, TouchingClaim}
+
+-- a grant that fits overlaps the box that is searched exactly if it holds the door and the quarter
+overlaps-door : (door quarter : ℕ) (g : Grant) → GrantFits g → overlaps (g .bounds) (doorBox door quarter) ≡ atDoor door quarter g
+unfolding overlaps
+overlaps-door door quarter g fits =
+    let staff = fits .bounds (g .bounds .«staff_from») (List·Memᴰ·head refl) in
+    rw (le-leb (g .bounds .«staff_from») 65535 (omega (arith, staff)), le-leb 0 (g .bounds .«staff_to») (omega arith))
+
+module _ {w : List ℕ} {b : Book} (h : Represents w b) where
+  found : (door quarter : ℕ) → Hits w (b .live) (λ g. overlaps (g .bounds) (doorBox door quarter)) (boxSearch w (doorBox door quarter))
+  found door quarter =
+      represents-hits h (rangeOfBox (doorBox door quarter)) (λ g. overlaps (g .bounds) (doorBox door quarter)) (λ g fits. box-hits g fits (doorBox door quarter))
+
+  pub grants-touching : (door quarter : ℕ) → grantsTouching w door quarter ≡ filter (atDoor door quarter) (b .live)
+  grants-touching door quarter =
+      found door quarter .grants
+      ∙ filter-same (λ (g : Grant). overlaps (g .bounds) (doorBox door quarter)) (atDoor door quarter) (b .live)
+      (λ g m. overlaps-door door quarter g (represents-fits h g (represents-live h g m)))
+
+  pub shows-touching : ShowsTouching w (b .live)
+  unfolding touchingAt lookOrder firstFault
+  shows-touching door quarter i =
+      rw (represents-pool h, found door quarter .whole) (ap (λ (gs : List Grant). placed gs i) (grants-touching door quarter))
+
+pub touching-claim : TouchingClaim
+touching-claim =
+    record {
+      started = λ c memory calls m fit. shows-touching (calls-represent m calls fit);
+      loaded = λ doors gs c memory calls s m room fit.
+          shows-touching (represents-calls (load-represents s memory (memory-sized m) room) calls fit .1);
+    }

@@ -1,0 +1,12 @@
+// The commands of the program of the three levels: each reads its files, calls the proved libraries and prints what they answer.
+mod common;
+pub mod cut;
+mod head_office;
+pub mod help;
+pub mod matching;
+mod may;
+mod pages;
+pub mod panel_loop;
+pub mod report;
+mod table;
+mod who;

@@ -1,0 +1,75 @@
+// The jobs that start with a bank's file: it is read whole, and its bytes are handed to the job.
+use atomic_file::Read;
+use atomic_file::first;
+use atomic_file::reading::read;
+use commands::matching::match_bank;
+use commands::panel_loop::panel;
+use commands::report::check;
+use commands::report::show;
+use console::arguments::are;
+use console::output::warn;
+use console::output::warn_reason;
+use grants_file::file::MAX_BYTES;
+
+// One byte more than the longest file has, so that a longer one is seen to be longer.
+const ROOM: usize = MAX_BYTES + 1;
+
+pub enum FileCommand {
+    Panel,
+    Match,
+    Check,
+    Show,
+}
+
+fn do_job(word: FileCommand, file: &[u8]) {
+    match word {
+        FileCommand::Panel => panel(file),
+        FileCommand::Match => match_bank(file),
+        FileCommand::Check => check(file),
+        FileCommand::Show => show(file),
+    }
+}
+
+// Reads the file, and does the job where it could be read.
+fn read_then(word: FileCommand, path: &[u8]) {
+    let mut bytes = [0u8; ROOM];
+    let got = read(path, &mut bytes);
+    match got {
+        Read::Bytes(n) => do_job(word, first(&bytes, n)),
+        Read::Failed(error) => {
+            warn(b"grants: ");
+            warn(path);
+            warn(b" can't be read: ");
+            warn_reason(error);
+        }
+    }
+}
+
+// Whether the job's words are all there.
+fn is_complete(word: FileCommand) -> bool {
+    match word {
+        FileCommand::Panel => are(b"panel", 2, 3),
+        FileCommand::Match => are(b"match", 3, 3),
+        FileCommand::Check => are(b"check", 2, 2),
+        FileCommand::Show => are(b"show", 2, 2),
+    }
+}
+
+// Where the file's name stands among the words.
+fn place_of(word: FileCommand) -> usize {
+    match word {
+        FileCommand::Panel => 2,
+        FileCommand::Match => 3,
+        FileCommand::Check => 2,
+        FileCommand::Show => 2,
+    }
+}
+
+pub fn on_file(word: FileCommand) {
+    if !is_complete(word) {
+        return;
+    }
+    let mut path = io::buffer();
+    let length = os::arg(place_of(word), &mut path);
+    read_then(word, &path[..length]);
+}

@@ -1,3 +1,0 @@
--- How far a grant stands against higher ones.
-pub mod Standing
-pub mod StandingWalk
