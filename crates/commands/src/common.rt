@@ -1,10 +1,10 @@
 // What several screens of the panel say.
+use crate::messages::put_refusal;
 use calendar::Base;
 use console::output::end;
 use console::output::say;
 use console::output::say_number;
-use fault_words::REFUSAL_BYTES;
-use fault_words::refusal_line;
+use libc::STDOUT_FILENO;
 use model::Fault;
 use panel::rows::ROW_BYTES;
 use panel::rows::moment_text;
@@ -18,9 +18,8 @@ pub fn say_quarter(base: Base, quarter: u16) {
     say(&out[..n]);
 }
 
-// A refusal at the counter.
+// A refusal as an answer.
 pub fn say_fault(f: Fault) {
-    let mut out = [0u8; REFUSAL_BYTES];
-    let n = refusal_line(f, &mut out);
-    end(&out[..n]);
+    put_refusal(STDOUT_FILENO, f);
+    end(b"\n");
 }

@@ -1,12 +1,12 @@
 // Head office's grants: a journal of slips, replayed into a fresh index.
+use crate::messages::put_refusal;
 use console::lines::Line;
 use console::lines::fresh;
 use console::lines::next_line;
 use console::output::warn;
 use console::output::warn_number;
 use console::output::warn_reason;
-use fault_words::REFUSAL_BYTES;
-use fault_words::refusal_line;
+use libc::STDERR_FILENO;
 use model::Fault;
 use model::Outcome;
 use slip_session::LONGEST;
@@ -17,9 +17,8 @@ use slip_session::journal::replay_line;
 const HELD: usize = LONGEST + 1;
 
 pub fn warn_refusal(f: Fault) {
-    let mut out = [0u8; REFUSAL_BYTES];
-    let n = refusal_line(f, &mut out);
-    warn(&out[..n]);
+    put_refusal(STDERR_FILENO, f);
+    warn(b"\n");
 }
 
 // Where in a journal something is wrong.

@@ -5,6 +5,7 @@ mod head_office;
 pub mod help;
 pub mod matching;
 mod may;
+mod messages;
 mod pages;
 pub mod panel_loop;
 pub mod report;

@@ -13,7 +13,7 @@ pub fn say_all() {
     );
     say(b"grants show FILE                 a file's grants as a table\n");
     say(b"grants slips                     a slip a line from standard input, an answer a line\n");
-    end(b"grants help WORD                 one of these words, with an example\n");
+    end(b"grants help COMMAND              one of these commands, with an example\n");
 }
 
 // What can be typed at the panel.

@@ -1,24 +1,24 @@
-// The words after the program's name.
+// The arguments after the program's name: a command, and what it takes.
 use crate::output::warn;
 
-// A job was asked for with too few or too many words.
-fn usage(word: &[u8]) {
+// A command was given too few or too many arguments.
+fn usage(command: &[u8]) {
     warn(b"grants: ");
-    warn(word);
-    warn(b" takes other words; type grants help ");
-    warn(word);
+    warn(command);
+    warn(b" takes other arguments; type grants help ");
+    warn(command);
     warn(b"\n");
 }
 
-// Whether as many words were given as a job takes, its own among them; else says what it takes.
-pub fn are(word: &[u8], least: usize, most: usize) -> bool {
+// Whether as many arguments were given as a command takes, its name among them; else says what it takes.
+pub fn are(command: &[u8], least: usize, most: usize) -> bool {
     let given = os::arg_count();
     if given <= least {
-        usage(word);
+        usage(command);
         return false;
     }
     if most < given - 1 {
-        usage(word);
+        usage(command);
         return false;
     }
     true

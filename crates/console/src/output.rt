@@ -2,12 +2,21 @@
 use libc::STDERR_FILENO;
 use libc::STDOUT_FILENO;
 
+// A piece of a sentence, and a number in decimal, on a stream that is named.
+pub fn put(fd: i32, text: &[u8]) {
+    io::write_all(fd, text);
+}
+
+pub fn put_number(fd: i32, n: usize) {
+    io::print_decimal(fd, n as u64);
+}
+
 pub fn say(text: &[u8]) {
-    io::write_all(STDOUT_FILENO, text);
+    put(STDOUT_FILENO, text);
 }
 
 pub fn say_number(n: usize) {
-    io::print_decimal(STDOUT_FILENO, n as u64);
+    put_number(STDOUT_FILENO, n);
 }
 
 // The last piece of an answer. An answer that can't be written is not left to look whole.
@@ -19,7 +28,7 @@ pub fn end(text: &[u8]) {
 }
 
 pub fn warn(text: &[u8]) {
-    io::write_all(STDERR_FILENO, text);
+    put(STDERR_FILENO, text);
 }
 
 pub fn warn_number(n: u64) {

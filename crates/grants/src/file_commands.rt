@@ -1,4 +1,4 @@
-// The jobs that start with a bank's file: it is read whole, and its bytes are handed to the job.
+// The commands that start with a bank's file: it is read whole, and its bytes are handed to the command.
 use atomic_file::Read;
 use atomic_file::first;
 use atomic_file::reading::read;
@@ -21,8 +21,8 @@ pub enum FileCommand {
     Show,
 }
 
-fn do_job(word: FileCommand, file: &[u8]) {
-    match word {
+fn run(command: FileCommand, file: &[u8]) {
+    match command {
         FileCommand::Panel => panel(file),
         FileCommand::Match => match_bank(file),
         FileCommand::Check => check(file),
@@ -30,12 +30,12 @@ fn do_job(word: FileCommand, file: &[u8]) {
     }
 }
 
-// Reads the file, and does the job where it could be read.
-fn read_then(word: FileCommand, path: &[u8]) {
+// Reads the file, and runs the command where it could be read.
+fn read_then(command: FileCommand, path: &[u8]) {
     let mut bytes = [0u8; ROOM];
     let got = read(path, &mut bytes);
     match got {
-        Read::Bytes(n) => do_job(word, first(&bytes, n)),
+        Read::Bytes(n) => run(command, first(&bytes, n)),
         Read::Failed(error) => {
             warn(b"grants: ");
             warn(path);
@@ -45,9 +45,9 @@ fn read_then(word: FileCommand, path: &[u8]) {
     }
 }
 
-// Whether the job's words are all there.
-fn is_complete(word: FileCommand) -> bool {
-    match word {
+// Whether the command's arguments are all there.
+fn is_complete(command: FileCommand) -> bool {
+    match command {
         FileCommand::Panel => are(b"panel", 2, 3),
         FileCommand::Match => are(b"match", 3, 3),
         FileCommand::Check => are(b"check", 2, 2),
@@ -55,9 +55,9 @@ fn is_complete(word: FileCommand) -> bool {
     }
 }
 
-// Where the file's name stands among the words.
-fn place_of(word: FileCommand) -> usize {
-    match word {
+// Where the file's name stands among the arguments.
+fn place_of(command: FileCommand) -> usize {
+    match command {
         FileCommand::Panel => 2,
         FileCommand::Match => 3,
         FileCommand::Check => 2,
@@ -65,11 +65,11 @@ fn place_of(word: FileCommand) -> usize {
     }
 }
 
-pub fn on_file(word: FileCommand) {
-    if !is_complete(word) {
+pub fn on_file(command: FileCommand) {
+    if !is_complete(command) {
         return;
     }
     let mut path = io::buffer();
-    let length = os::arg(place_of(word), &mut path);
-    read_then(word, &path[..length]);
+    let length = os::arg(place_of(command), &mut path);
+    read_then(command, &path[..length]);
 }

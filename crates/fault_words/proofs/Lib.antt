@@ -1,2 +1,0 @@
--- Faults in words, computed.
-pub mod FaultTextCases

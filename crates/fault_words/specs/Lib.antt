@@ -1,2 +1,0 @@
--- Faults in words.
-pub mod FaultText
