@@ -21,7 +21,7 @@ use Rattle.grants_file.specs.BlockRead.{readCauses, partOf}
 use Rattle.grants_file.specs.Answers.{answerBy, readAnswer}
 use Rattle.calls.specs.Contract.{Leaves, Lends}
 use Rattle.calls.specs.FileCalls.{blockCall}
-use Rattle.c_api.specs.Pack.{word, firstOf, packRefusal, pack, packPart}
+use Rattle.c_api.specs.Pack.{word, firstOf, packRefusal, pack, packPart, listTooShort}
 use Rattle.c_api.specs.Contract.{PacksPool, PacksLent, PacksOut}
 
 module _ (number a b : ℕ) (n : number < 256) (k : a < 16777216) (m : b < 4294967296) where
@@ -38,11 +38,11 @@ module _ (number a b : ℕ) (n : number < 256) (k : a < 16777216) (m : b < 42949
   b-word = omega arith
 
 module _ (number : ℕ) (values : List ℕ) {n v r : ℕ} (e : n ≡ number) (f : v ≡ firstOf values) where
-  pub refusal-list : n ≡ 8 → r ≡ word n v 0 → r ≡ packRefusal number values
-  refusal-list is p = rw (← e, ← f, eq-eqb n 8 is) p
+  pub refusal-list : n ≡ listTooShort → r ≡ word n v 0 → r ≡ packRefusal number values
+  refusal-list is p = rw (← e, ← f, eq-eqb n listTooShort is) p
 
-  pub refusal-other : (n ≡ 8 → ⊥) → r ≡ word n 0 v → r ≡ packRefusal number values
-  refusal-other other p = rw (← e, ← f, ne-eqb n 8 other) p
+  pub refusal-other : (n ≡ listTooShort → ⊥) → r ≡ word n 0 v → r ≡ packRefusal number values
+  refusal-other other p = rw (← e, ← f, ne-eqb n listTooShort other) p
 
 module _ {a : Answer} {r : ℕ} {memory : List ℕ} {s : Step (List ℕ)} where
   pub packs-pool : r ≡ pack a → Leaves a memory s → PacksPool r memory s

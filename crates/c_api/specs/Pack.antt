@@ -15,6 +15,8 @@ use mathlib.Core.List.{List}
 use lib.Dec.{eqb}
 use lib.ListN.{length, getD}
 use Rattle.model.specs.declared.Box.{Box}
+use Rattle.model.specs.declared.Fault.the-variants.{ListTooShort}
+use Rattle.model.specs.Fault.{faultNumber}
 use Rattle.model.specs.Answer.{Answer, accepted, refused}
 use Rattle.grants_file.specs.Block.{blockBytes, recordsPlace}
 use Rattle.grants_file.specs.BlockRead.{partOf}
@@ -38,8 +40,12 @@ firstOf values = getD values 0 0
 abbrev pub secondOf : List ℕ → ℕ
 secondOf values = getD values 1 0
 
+-- fault 8's number: its value is a count
+abbrev pub listTooShort : ℕ
+listTooShort = faultNumber (ListTooShort 0)
+
 abbrev pub packRefusal : ℕ → List ℕ → ℕ
-packRefusal number values = cond (eqb number 8) (word number (firstOf values) 0) (word number 0 (firstOf values))
+packRefusal number values = cond (eqb number listTooShort) (word number (firstOf values) 0) (word number 0 (firstOf values))
 
 abbrev pub pack : Answer → ℕ
 pack (accepted values) = word 0 (firstOf values) 0

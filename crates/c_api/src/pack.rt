@@ -4,7 +4,7 @@ ghost use mathlib.Core.List.{[], _∷_, _++_};
 ghost use Rattle.model.specs.Grant.{grantValues};
 ghost use Rattle.model.specs.Fault.{faultNumber, faultValues};
 ghost use Rattle.model.specs.Answer.{outcomeAnswer, listedAnswer, decisionAnswer, countedAnswer, writtenAnswer, matchedAnswer};
-ghost use Rattle.c_api.specs.Pack.{word, firstOf, packRefusal, pack, packPair, packLength};
+ghost use Rattle.c_api.specs.Pack.{word, packRefusal, pack, packPair, packLength};
 ghost use Rattle.c_api.specs.Contract.{PacksOut};
 use model::Counted;
 use model::Decision;
@@ -14,6 +14,8 @@ use model::Listed;
 use model::Matched;
 use model::Outcome;
 use model::Written;
+use model::faults::fault_number;
+use model::faults::fault_value;
 use model::kinds::kind_number;
 
 // Bits 0 to 7 the number, 8 to 31 `a`, 32 to 63 `b`.
@@ -23,56 +25,13 @@ pub fn word(number: u64, a: u64, b: u64) -> u64
     number % 256 + 256 * (a % 16777216) + 4294967296 * (b % 4294967296)
 }
 
-// Document 01's number of a fault.
-fn fault_number(fault: Fault) -> u64
-    ensures { λ r. ⌜ r ≡ faultNumber fault ⌝ }
-{
-    match fault {
-        Fault::BadPool => 1,
-        Fault::Reversed => 2,
-        Fault::ZeroNumber => 3,
-        Fault::UnknownKind => 4,
-        Fault::AlreadyLive => 5,
-        Fault::Full => 6,
-        Fault::NotLive => 7,
-        Fault::ListTooShort { needed: _ } => 8,
-        Fault::BrokenLinks => 9,
-        Fault::BadLength => 10,
-        Fault::BadLayout { block: _ } => 11,
-        Fault::BadChecksum { block: _ } => 12,
-        Fault::BadRecord { block: _ } => 13,
-        Fault::BufferTooShort { needed: _ } => 14,
-    }
-}
-
-// The value that it returns beside the number; 0 where there is none.
-fn fault_value(fault: Fault) -> u64
-    ensures { λ r. ⌜ r ≡ firstOf (faultValues fault) ⌝ }
-{
-    match fault {
-        Fault::BadPool => 0,
-        Fault::Reversed => 0,
-        Fault::ZeroNumber => 0,
-        Fault::UnknownKind => 0,
-        Fault::AlreadyLive => 0,
-        Fault::Full => 0,
-        Fault::NotLive => 0,
-        Fault::ListTooShort { needed } => needed as u64,
-        Fault::BrokenLinks => 0,
-        Fault::BadLength => 0,
-        Fault::BadLayout { block } => block as u64,
-        Fault::BadChecksum { block } => block as u64,
-        Fault::BadRecord { block } => block as u64,
-        Fault::BufferTooShort { needed } => needed as u64,
-    }
-}
-
 fn pack_fault(fault: Fault) -> u64
     ensures { λ r. ⌜ r ≡ packRefusal (faultNumber fault) (faultValues fault) ⌝ }
 {
-    let number = fault_number(fault);
-    let value = fault_value(fault);
-    if number == 8 {
+    let number = fault_number(fault) as u64;
+    let value = fault_value(fault) as u64;
+    let list_too_short = fault_number(Fault::ListTooShort { needed: 0 }) as u64;
+    if number == list_too_short {
         return word(number, value, 0);
     }
     word(number, 0, value)

@@ -12,7 +12,7 @@ use lib.ListN.{length}
 use borrow.Author.Tests.{eqb-true, eqb-false}
 use Rattle.grants_file.specs.Block.{blockBytes, recordsPlace}
 use Rattle.grants_file.specs.BlockRead.{partOf}
-use Rattle.c_api.specs.Pack.{numberValues, aValues, bValues, word, firstOf, packRefusal, packPart}
+use Rattle.c_api.specs.Pack.{numberValues, aValues, bValues, word, firstOf, packRefusal, packPart, listTooShort}
 use Rattle.claims.specs.PackedFits.{FitsRefusal, FitsPart}
 use Rattle.claims.specs.PackedReads.{Reads, ReadsBack}
 use Rattle.c_api.proofs.PackLaws.{number-word, a-word, b-word}
@@ -22,8 +22,8 @@ reads-word number a b n k m =
     record { number-read = number-word number a b n k m; a-read = a-word number a b n k m; b-read = b-word number a b n k m }
 
 refusal-reads : (number : ℕ) (values : List ℕ) → FitsRefusal number values
-    → Reads (packRefusal number values) number (cond (eqb number 8) (firstOf values) 0) (cond (eqb number 8) 0 (firstOf values))
-refusal-reads number values h = go (eqb number 8) (h .value)
+    → Reads (packRefusal number values) number (cond (eqb number listTooShort) (firstOf values) 0) (cond (eqb number listTooShort) 0 (firstOf values))
+refusal-reads number values h = go (eqb number listTooShort) (h .value)
   where
     v : ℕ
     v = firstOf values

@@ -20,13 +20,13 @@ use Rattle.grants_file.specs.Block.{blockBytes, recordsPlace}
 use Rattle.grants_file.specs.BlockRead.{partOf}
 use Rattle.calls.specs.Calls.{startCall, grantCall, revokeCall, listCall, decideCall, countCall}
 use Rattle.calls.specs.FileCalls.{writeCall, loadCall, matchCall, blockCall}
-use Rattle.c_api.specs.Pack.{numberValues, aValues, bValues, firstOf, secondOf}
+use Rattle.c_api.specs.Pack.{numberValues, aValues, bValues, firstOf, secondOf, listTooShort}
 
 -- fault 8's value is a, any other fault's b
 pub record FitsRefusal (number : ℕ) (values : List ℕ) : Type 0 where
   pub some : 0 < number
   pub few : number < numberValues
-  pub value : firstOf values < cond (eqb number 8) aValues bValues
+  pub value : firstOf values < cond (eqb number listTooShort) aValues bValues
 
 abbrev pub Fits : Answer → Type 0
 Fits (accepted values) = firstOf values < aValues
