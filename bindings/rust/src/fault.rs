@@ -7,7 +7,10 @@ use std::fmt;
 /// Makes `Fault` of a table. A fault is its number, its name, the value beside it if it has one, with the place of that value in
 /// the returned word, and its sentence.
 macro_rules! faults {
-    ($($(#[$cause:meta])* $number:literal => $name:ident $({ $value:ident: $type:ident = $place:ident })?, $sentence:literal;)*) => {
+    ($(
+        $(#[$cause:meta])*
+        $number:literal => $name:ident $({ $value:ident: $type:ident = $place:ident })?, $sentence:literal;
+    )*) => {
         /// Why a call was refused: document 01's table. A refused call leaves all memory as it was.
         #[derive(Clone, Copy, Debug, PartialEq, Eq, Hash)]
         #[non_exhaustive]
