@@ -10,6 +10,7 @@ variable LG_LIBRARY names.
 import array
 import collections
 import ctypes
+import enum
 import operator
 import os
 
@@ -21,36 +22,50 @@ Bounds = collections.namedtuple("Bounds", "staff_from staff_to door_from door_to
 Grant = collections.namedtuple("Grant", "number rank kind bounds")
 Count = collections.namedtuple("Count", "live free")
 
-FAULTS = {
-    1: "not a pool",
-    2: "a range ends before it starts",
-    3: "the grant number is 0",
-    4: "the kind is above 1",
-    5: "the number is already live",
-    6: "no cell is free",
-    7: "the number is not live",
-    8: "the list is too short",
-    9: "the pool's links are broken",
-    10: "not 1 to 68 whole blocks, or no such block",
-    11: "wrong mark, number, counts, door order or fill",
-    12: "wrong check",
-    13: "wrong record",
-    14: "too few bytes",
-}
+
+class Fault(enum.IntEnum):
+    """Document 01's faults under the library's names; tests/faults compares them with the library's.
+
+    A fault is its number, its sentence and, where a value is returned beside it, which of the word's two values that is.
+    """
+
+    BadPool = 1, "not a pool"
+    Reversed = 2, "a range ends before it starts"
+    ZeroNumber = 3, "the grant number is 0"
+    UnknownKind = 4, "the kind is above 1"
+    AlreadyLive = 5, "the number is already live"
+    Full = 6, "no cell is free"
+    NotLive = 7, "the number is not live"
+    ListTooShort = 8, "the list is too short", "a"
+    BrokenLinks = 9, "the pool's links are broken"
+    BadLength = 10, "not 1 to 68 whole blocks, or no such block"
+    BadLayout = 11, "wrong mark, number, counts, door order or fill", "b"
+    BadChecksum = 12, "wrong check", "b"
+    BadRecord = 13, "wrong record", "b"
+    BufferTooShort = 14, "too few bytes", "b"
+
+    def __new__(cls, number, sentence, place=None):
+        fault = int.__new__(cls, number)
+        fault._value_ = number
+        fault.sentence = sentence
+        fault.place = place
+        return fault
 
 
 class Refused(Exception):
-    """A fault of document 01's table.
+    """A call was refused.
 
-    number: the fault's number there
-    value:  with 8 the count needed, with 14 the length needed, with 11, 12 and 13 the block; otherwise None
+    number: the fault's number in document 01's table
+    fault:  the Fault of this number, or None where only a later library has it
+    value:  what is returned beside the fault: the count or the length needed, or the block; otherwise None
     """
 
-    def __init__(self, number, value=None):
-        said = FAULTS.get(number, "fault %d" % number)
-        super().__init__(said if value is None else "%s (%d)" % (said, value))
-        self.number = number
-        self.value = value
+    def __init__(self, number, a=0, b=0):
+        self.number = int(number)
+        self.fault = next((fault for fault in Fault if fault == number), None)
+        sentence, place = (self.fault.sentence, self.fault.place) if self.fault else ("fault %d" % number, None)
+        self.value = {"a": a, "b": b}.get(place)
+        super().__init__(sentence if self.value is None else "%s (%d)" % (sentence, self.value))
 
 
 def _library():
@@ -126,11 +141,9 @@ def _file(file):
 def _unpack(word):
     """The values a and b of an accepted call's word."""
     number, a, b = word & 0xFF, word >> 8 & 0xFFFFFF, word >> 32
-    if number == 0:
-        return a, b
-    if number == 8:
-        raise Refused(number, a)
-    raise Refused(number, b if number in (11, 12, 13, 14) else None)
+    if number != 0:
+        raise Refused(number, a, b)
+    return a, b
 
 
 def start(pool):
@@ -222,7 +235,7 @@ class Index:
 
     def __init__(self, capacity):
         if not 1 <= capacity <= 2048:
-            raise Refused(1)
+            raise Refused(Fault.BadPool)
         self.pool = array.array("H", bytes(2 * (3 + 10 * capacity)))
         start(self.pool)
 
@@ -251,7 +264,7 @@ class Index:
         try:
             needed = write_into(self.pool, door_from, door_to, bytearray())
         except Refused as refused:
-            if refused.number != 14:
+            if refused.fault != Fault.BufferTooShort:
                 raise
             needed = refused.value
         file = bytearray(needed)

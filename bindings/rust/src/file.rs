@@ -1,6 +1,7 @@
 //! Block read: one block of a grants file, judged alone, also in a file that load refuses.
 
-use crate::answer::{unpack, Fault};
+use crate::answer::unpack;
+use crate::fault::Fault;
 use crate::ffi;
 
 /// The verdict on one block. Refuses 10, 12 and 11, in this order.

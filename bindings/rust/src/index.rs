@@ -1,6 +1,7 @@
 //! An index that owns its pool.
 
-use crate::answer::{Count, Decision, Fault, Match};
+use crate::answer::{Count, Decision, Match};
+use crate::fault::Fault;
 use crate::grant::{Bounds, Grant, Span};
 use crate::pool;
 
@@ -54,7 +55,7 @@ impl Index {
     /// The grants file of a span of doors. Refuses 2.
     pub fn write(&self, doors: Span) -> Result<Vec<u8>, Fault> {
         let needed = match pool::write(&self.words, doors, &mut []) {
-            Err(Fault::BytesTooFew { needed }) => needed,
+            Err(Fault::BufferTooShort { needed }) => needed,
             Err(fault) => return Err(fault),
             Ok(length) => length,
         };

@@ -5,6 +5,7 @@
 //! examples/night_shift.rs is a page that shows it.
 
 mod answer;
+mod fault;
 mod ffi;
 mod grant;
 mod index;
@@ -12,6 +13,7 @@ mod index;
 pub mod file;
 pub mod pool;
 
-pub use answer::{Count, Decision, Fault, Match};
+pub use answer::{Count, Decision, Match};
+pub use fault::Fault;
 pub use grant::{Bounds, Grant, Kind, Span};
 pub use index::Index;

@@ -2,7 +2,8 @@
 //! 3 + 10 × C words for a capacity C of 1 to 2048 (`words`). Every call is safe on any words: a pool that no call made is refused
 //! or answered, never followed outside the slice.
 
-use crate::answer::{unpack, Count, Decision, Fault, Match};
+use crate::answer::{unpack, Count, Decision, Match};
+use crate::fault::Fault;
 use crate::ffi;
 use crate::grant::{Bounds, Grant, Kind, Span};
 

@@ -117,8 +117,8 @@ fn part_of(file: &[u8], part: &[u8]) -> Answer {
 
 fn fault_of(fault: lg::Fault) -> Fault {
     let value = match fault {
-        lg::Fault::ListTooShort { needed } | lg::Fault::BytesTooFew { needed } => needed as u32,
-        lg::Fault::WrongLayout { block } | lg::Fault::WrongCheck { block } | lg::Fault::WrongRecord { block } => block,
+        lg::Fault::ListTooShort { needed } | lg::Fault::BufferTooShort { needed } => needed as u32,
+        lg::Fault::BadLayout { block } | lg::Fault::BadChecksum { block } | lg::Fault::BadRecord { block } => block,
         _ => 0,
     };
     Fault { number: fault.number(), value }
