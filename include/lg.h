@@ -14,7 +14,7 @@
  *
  * a and b are 0 where a call below does not name them. A refused call leaves all memory as it was.
  *
- *      1  not a pool: its length is no pool's, or its first word is not its capacity (lg_start asks only for the length)
+ *      1  not a pool: its length is no pool's, or its first word is not its capacity (lg_start and lg_load ask only for the length)
  *      2  a range of the box, or the doors, end before they start
  *      3  the number is 0
  *      4  the kind is above 1
