@@ -16,7 +16,7 @@ use borrow.Author.Tests.{eq-eqb, ne-eqb}
 use Rattle.model.specs.declared.Fault.{Fault}
 use Rattle.model.specs.Answer.{Answer, accepted}
 use Rattle.model.specs.Refusal.{Step, firstFault, stepBy, refusing}
-use Rattle.grants_file.specs.Block.{blockBytes, recordsPlace}
+use Rattle.grants_file.specs.Layout.{blockBytes, recordsPlace}
 use Rattle.grants_file.specs.BlockRead.{readCauses, partOf}
 use Rattle.grants_file.specs.Answers.{answerBy, readAnswer}
 use Rattle.calls.specs.Contract.{Leaves, Lends}

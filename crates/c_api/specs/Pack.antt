@@ -18,7 +18,7 @@ use Rattle.model.specs.declared.Box.{Box}
 use Rattle.model.specs.declared.Fault.the-variants.{ListTooShort}
 use Rattle.model.specs.Fault.{faultNumber}
 use Rattle.model.specs.Answer.{Answer, accepted, refused}
-use Rattle.grants_file.specs.Block.{blockBytes, recordsPlace}
+use Rattle.grants_file.specs.Layout.{blockBytes, recordsPlace}
 use Rattle.grants_file.specs.BlockRead.{partOf}
 
 abbrev pub numberValues : ℕ

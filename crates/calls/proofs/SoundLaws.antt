@@ -2,12 +2,11 @@
 --   call-sound                  the calls of demand 3's lists
 --   write-sound, match-sound    write and match
 -- Assumes nothing.
-use Prim.Native.Nat.{ℕ, zero, suc, min}
+use Prim.Native.Nat.{ℕ, min}
 use mathlib.Core.Path.{_≡_, refl, ap, _∙_}
 use mathlib.Core.Bool.{Bool, true, false, cond}
 use mathlib.Core.List.{List, [], _∷_}
 use Rattle.lists.specs.Tests.{every}
-use Rattle.lists.specs.Ranges.{countFrom}
 use Rattle.lists.proofs.EveryLaws.{every-append, every-flatMap}
 use Rattle.model.specs.declared.Grant.{Grant}
 use Rattle.model.specs.declared.Matched.the-variants as matched
@@ -20,8 +19,12 @@ use Rattle.model.specs.Values.{CallFits}
 use Rattle.model.specs.Histories.{Response}
 use Rattle.model.proofs.SoundLaws.{soundAnswer, soundCause, refusing-sound}
 use Rattle.model.proofs.BookLaws.{bookStep-sound}
-use Rattle.grants_file.specs.File.{blocksIn, doorsIn, grantsIn}
-use Rattle.grants_file.specs.Verdict.{blockCauses, fileCauses}
+use Rattle.grants_file.specs.declared.Defect.{Defect}
+use Rattle.grants_file.specs.declared.Defect.the-variants.{Sound, Length, Checksum, Mark, BlockNumber, TooManyGrants, BlockCount}
+use Rattle.grants_file.specs.declared.Defect.the-variants.{RecordCount, DoorOrder, Padding, NumberOrder, Kind, Reversed, Doors}
+use Rattle.grants_file.specs.File.{doorsIn, grantsIn}
+use Rattle.grants_file.specs.Defects.{fileDefects, defectFault}
+use Rattle.grants_file.specs.Verdict.{causeBy, fileCauses}
 use Rattle.calls.specs.Order.{writeOrder, matchOrder}
 use Rattle.calls.specs.FileCalls.{touchingGrants, writeCall, firstDifference, matchCall}
 use Rattle.calls.specs.Calls.{wordsStep}
@@ -36,15 +39,27 @@ pub write-sound : {w : List ℕ} {b : Book} → Represents w b → (doors : Inte
 unfolding writeCall writeOrder every
 write-sound {w} h doors lent = refusing-sound _ w lent _ (rw (represents-pool h, touching-found h doors .whole)) refl
 
--- a file's causes are 10 to 13
-block-sound : (f : List ℕ) (i : ℕ) → every soundCause (blockCauses f i) ≡ true
-unfolding blockCauses every
-block-sound f zero = refl
-block-sound f (suc i) = refl
+-- the faults that defects stand for are 10 to 13
+defect-sound : (x : Defect) (t : Bool) → every soundCause (causeBy (defectFault x) t) ≡ true
+unfolding every
+defect-sound Sound t = refl
+defect-sound Length t = refl
+defect-sound (Checksum i) t = refl
+defect-sound (Mark i) t = refl
+defect-sound (BlockNumber i) t = refl
+defect-sound (TooManyGrants total) t = refl
+defect-sound (BlockCount total blocks) t = refl
+defect-sound (RecordCount i) t = refl
+defect-sound (DoorOrder from to) t = refl
+defect-sound (Padding i) t = refl
+defect-sound (NumberOrder i k number) t = refl
+defect-sound (Kind i k number) t = refl
+defect-sound (Reversed i k number) t = refl
+defect-sound (Doors i k number) t = refl
 
 file-sound : (f : List ℕ) → every soundCause (fileCauses f) ≡ true
-unfolding fileCauses every
-file-sound f = every-flatMap soundCause (blockCauses f) (countFrom 0 (blocksIn f)) (block-sound f)
+unfolding fileCauses
+file-sound f = every-flatMap soundCause _ (fileDefects f) (λ c. defect-sound (c .defect) (c .present))
 
 difference-sound : (gs hs : List Grant) → soundAnswer (matchedAnswer (firstDifference gs hs)) ≡ true
 unfolding firstDifference

@@ -26,7 +26,7 @@ use Rattle.model.specs.Book.{Book}
 use Rattle.geometry.specs.SearchRange.{rangeOfDoors}
 use Rattle.geometry.proofs.SearchRangeLaws.{doors-hits}
 use Rattle.pool.specs.Capacity.{wrongPool}
-use Rattle.grants_file.specs.Block.{blockBytes}
+use Rattle.grants_file.specs.Layout.{blockBytes}
 use Rattle.grants_file.specs.File.{blocksFor, fileOf}
 use Rattle.grants_file.specs.FileSets.{DoorRange, FileSet}
 use Rattle.grants_file.proofs.FileLaws.{length-fileOf}

@@ -40,12 +40,12 @@ use Rattle.model.proofs.BookLaws.{bookList-writes}
 use Rattle.geometry.proofs.SearchRangeLaws.{box-hits-iff}
 use Rattle.pool.specs.Capacity.{wrongLength, wrongPool}
 use Rattle.adt.specs.Reach.{Holds}
+use Rattle.grants_file.specs.Layout.{blockBytes}
 use Rattle.grants_file.specs.Record.{encodeRecord}
-use Rattle.grants_file.specs.Block.{blockBytes}
 use Rattle.grants_file.specs.File.{chunk, fileOf, blocksIn, grantsIn}
 use Rattle.grants_file.specs.BlockRead.{readCauses, partOf}
 use Rattle.grants_file.specs.FileSets.{Accepted, DoorRange, FileSet, Ordering}
-use Rattle.grants_file.proofs.CauseLaws.{wrongBlockCount-iff, Passes, accepted-iff}
+use Rattle.grants_file.proofs.CauseLaws.{Passes, accepted-iff}
 use Rattle.grants_file.proofs.VerdictLaws.{accepted-files}
 use Rattle.grants_file.proofs.OneByteLaws.{one-byte}
 use Rattle.grants_file.proofs.PartLaws.{passes-read, part-first, part-grants, part-refusal}
@@ -172,7 +172,7 @@ pub parts : (f : List ℕ) → Below byteValues f → Accepted f
     × ((i : ℕ) → 0 < i → i < blocksIn f → partOf f i ≡ flatMap encodeRecord (chunk i (grantsIn f)))
 parts f below taken = (
   (λ i h. block-accepted f i (passes-read f passes i h)),
-  part-first f passes (wrongBlockCount-iff f .0 (passes .count) .some),
+  part-first f passes (passes .whole .some),
   records,
 )
   where

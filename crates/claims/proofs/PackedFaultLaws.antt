@@ -3,13 +3,13 @@
 --   SmallFirst cs             so for the fault that answers, which is the first whose cause holds
 --   fault-fits                a refusal with a small value fits
 --   small-all, small-first    the value that answers is small where all are; where those after the first are, its cause not holding
---   small-append, small-flatMap    lines that are put together
+--   small-append              lines that are put together
 --   call-fits                 a call's answer has what every small refusal has, and what an accepted call answers
 -- Assumes nothing.
 use Prim.Native.Nat.{ℕ, _<_}
 use mathlib.Core.Path.{_≡_, refl, subst}
 use mathlib.Core.Bool.{Bool, true, false, cond, and-eq-true-iff}
-use mathlib.Core.List.{List, [], _∷_, _++_, flatMap, List·Memᴰ, List·Memᴰ·head, List·Memᴰ·tail}
+use mathlib.Core.List.{List, [], _∷_, _++_}
 use mathlib.Core.Option.{Option, none, some}
 use native.Mathlib.Omega.{arith}
 use lib.Dec.{ltb, eqb, lit<}
@@ -77,12 +77,6 @@ small-all (c ∷ cs) s f e =
 
 pub small-append : (cs ds : List Cause) → SmallAll cs → SmallAll ds → SmallAll (cs ++ ds)
 small-append cs ds s t = every-append smallCause cs ds s t
-
-pub small-flatMap : {A : Type 0} (causes : A → List Cause) (xs : List A) → ((x : A) → List·Memᴰ x xs → SmallAll (causes x)) → SmallAll (flatMap causes xs)
-unfolding every flatMap
-small-flatMap causes [] h = refl
-small-flatMap causes (x ∷ xs) h =
-    small-append (causes x) (flatMap causes xs) (h x (List·Memᴰ·head refl)) (small-flatMap causes xs (λ y m. h y (List·Memᴰ·tail m)))
 
 pub call-fits : {S : Type 0} (P : Answer → Type 0) → ((f : Fault) → Small f → P (refusal f)) → (cs : List Cause) (s : S) (lent : List ℕ) (d : Step S)
     → SmallFirst cs → (firstFault cs ≡ none → P (d .answer)) → P (refusing cs s lent d .answer)

@@ -4,19 +4,19 @@
 --   answers-fit     the claim
 -- Assumes nothing.
 use Prim.Native.Nat.{ℕ, zero, suc, _+_, _*_, _≤_, _<_, min}
-use mathlib.Core.Path.{_≡_, refl, ap, subst}
+use mathlib.Core.Path.{_≡_, refl, sym, ap, subst}
 use mathlib.Core.Bool.{Bool, true, false, cond}
 use mathlib.Core.List.{List, [], _∷_, _++_, flatMap, List·Memᴰ, List·Memᴰ·head, List·Memᴰ·tail, Memᴰ·of-map}
 use mathlib.Core.Option.{Option, none, some}
 use native.Mathlib.Omega.{arith}
-use lib.Dec.{leb, lit<}
+use lib.Dec.{leb, ltb, lit<}
 use lib.ListN.{length, drop, length-take, length-drop}
 use borrow.Author.Tests.{leb-false, lt-ltb}
 use Rattle.lists.specs.Tests.{every}
 use Rattle.lists.specs.Ranges.{countFrom}
 use Rattle.lists.proofs.SortLaws.{sortBy-mem}
 use Rattle.lists.proofs.OrLaws.{or-false-iff}
-use Rattle.lists.proofs.ListLaws.{countFrom-mem}
+use Rattle.lists.proofs.ListLaws.{countFrom-mem, flatMap-append}
 use Rattle.model.specs.declared.Box.{Box}
 use Rattle.model.specs.declared.Grant.{Grant}
 use Rattle.model.specs.declared.Fault.{Fault}
@@ -40,11 +40,14 @@ use Rattle.pool.specs.Cell.{grantAt}
 use Rattle.pool.specs.Capacity.{capacityOf, wrongPool}
 use Rattle.pool.proofs.CapacityLaws.{capacityOf-poolLength, wrongPool-iff}
 use Rattle.adt.specs.Search.{search}
-use Rattle.grants_file.specs.Record.{recordBytes}
-use Rattle.grants_file.specs.Block.{blockBytes, recordsPlace, countOf}
-use Rattle.grants_file.specs.File.{blocksIn, blockAt, doorsIn}
-use Rattle.grants_file.specs.Verdict.{maxBlocks, wrongBlockCount, blockCauses, fileCauses}
-use Rattle.grants_file.specs.BlockRead.{notInFile, readCauses, partOf}
+use Rattle.grants_file.specs.Layout.{blockBytes, maxBlocks, recordsPlace, recordBytes}
+use Rattle.grants_file.specs.Record.{recordNumber}
+use Rattle.grants_file.specs.Block.{countOf, recordsOf}
+use Rattle.grants_file.specs.File.{countIn, blocksIn, blockAt, wrongBlockCount, totalIn, doorsIn}
+use Rattle.grants_file.specs.Defects.{DefectCause, startDefects, layoutDefects, recordDefects, recordsDefects}
+use Rattle.grants_file.specs.Defects.{lastBefore, miscounted, contentDefects, blockDefects, fileDefects}
+use Rattle.grants_file.specs.Verdict.{causesOf, fileCauses}
+use Rattle.grants_file.specs.BlockRead.{notInFile, wrongCount, restDefects, readCauses, partOf}
 use Rattle.grants_file.proofs.BytesLaws.{getD-below}
 use Rattle.grants_file.proofs.CauseLaws.{Whole, wrongBlockCount-iff, accepted-iff}
 use Rattle.grants_file.proofs.VerdictLaws.{passes-set}
@@ -57,7 +60,7 @@ use Rattle.calls.specs.FileCalls.{touchingGrants, writeCall, loadCall, firstDif
 use Rattle.c_api.specs.Pack.{aValues}
 use Rattle.calls.proofs.FewHitsLaws.{hits-few}
 use Rattle.claims.specs.PackedFits.{Fits, FitsPair, FitsLength, FitsPart, AnswersFit}
-use Rattle.claims.proofs.PackedFaultLaws.{SmallAll, SmallFirst, fault-fits, small-all, small-first, small-append, small-flatMap, call-fits}
+use Rattle.claims.proofs.PackedFaultLaws.{SmallAll, SmallFirst, fault-fits, small-all, small-first, small-append, call-fits}
 
 capacity-most : (w : List ℕ) → wrongPool w ≡ false → capacityOf w ≤ maxGrants
 capacity-most w right =
@@ -121,21 +124,63 @@ write-fits w doors lent =
     small-all _ (rw (lt-ltb (lengthNeeded (hitsOf (doorSearch w doors))) aValues (omega arith)))))
     (λ e. omega (arith, hits-most w (rangeOfDoors doors) (causes-absent _ _ e .0)))
 
+-- the causes of defects in two rows
+small-join : (cs ds : List DefectCause) → SmallAll (causesOf cs) → SmallAll (causesOf ds) → SmallAll (causesOf (cs ++ ds))
+small-join cs ds p q = subst SmallAll (sym (flatMap-append _ cs ds)) (small-append (causesOf cs) (causesOf ds) p q)
+
 -- a block's causes name its number
-block-small : (f : List ℕ) (i : ℕ) → i < maxBlocks → SmallAll (blockCauses f i)
-unfolding blockCauses every
-block-small f zero h = refl
-block-small f (suc i) h = rw (lt-ltb (suc i) aValues (omega arith))
+module _ (i : ℕ) (few : i < maxBlocks) where
+  number-small : ltb i aValues ≡ true
+  number-small = lt-ltb i aValues (omega arith)
+
+  start-small : (b : List ℕ) → SmallAll (causesOf (startDefects b i))
+  unfolding every flatMap
+  start-small b = rw number-small
+
+  layout-small : (b : List ℕ) (t : Bool) → SmallAll (causesOf (layoutDefects b i t))
+  unfolding every flatMap
+  layout-small b t = rw number-small
+
+  record-small : (doors : Interval) (k last : ℕ) (r : List ℕ) → SmallAll (causesOf (recordDefects doors i k last r))
+  unfolding every flatMap
+  record-small doors k last r = rw number-small
+
+  records-small : (doors : Interval) (k last : ℕ) (rs : List (List ℕ)) → SmallAll (causesOf (recordsDefects doors i k last rs))
+  unfolding recordsDefects every flatMap
+  records-small doors k last [] = refl
+  records-small doors k last (r ∷ rs) =
+      small-join (recordDefects doors i k last r) (recordsDefects doors i (suc k) (recordNumber r) rs)
+      (record-small doors k last r)
+      (records-small doors (suc k) (recordNumber r) rs)
+
+content-small : (f : List ℕ) (i : ℕ) → i < maxBlocks → SmallAll (causesOf (contentDefects f i))
+unfolding contentDefects every flatMap
+content-small f zero h = refl
+content-small f (suc i) h =
+    let b = blockAt f (suc i) in
+    let records = recordsOf b (countIn (totalIn f) (suc i)) in
+    small-join (layoutDefects b (suc i) (miscounted f (suc i))) (recordsDefects (doorsIn f) (suc i) 1 (lastBefore f (suc i)) records)
+    (layout-small (suc i) h b (miscounted f (suc i)))
+    (records-small (suc i) h (doorsIn f) 1 (lastBefore f (suc i)) records)
+
+blocks-small : (f : List ℕ) (is : List ℕ) → ((i : ℕ) → List·Memᴰ i is → i < maxBlocks) → SmallAll (causesOf (flatMap (blockDefects f) is))
+unfolding every flatMap
+blocks-small f [] h = refl
+blocks-small f (i ∷ is) h =
+    let few = h i (List·Memᴰ·head refl) in
+    small-join (blockDefects f i) (flatMap (blockDefects f) is)
+    (small-join (startDefects (blockAt f i) i) (contentDefects f i) (start-small i few (blockAt f i)) (content-small f i few))
+    (blocks-small f is (λ j m. h j (List·Memᴰ·tail m)))
 
 pub file-small : (f : List ℕ) (others : List Cause) → SmallAll others → SmallFirst (fileCauses f ++ others)
-unfolding fileCauses
+unfolding fileCauses fileDefects flatMap
 file-small f others small =
     small-first _ _ (lit< tt)
     (λ right.
     let whole = wrongBlockCount-iff f .0 right in
     let n = blocksIn f in
-    let blocks = small-flatMap (blockCauses f) (countFrom 0 n) (λ i m. block-small f i (omega (arith, countFrom-mem 0 n i m .1, whole .few))) in
-    small-all _ (small-append (flatMap (blockCauses f) (countFrom 0 n)) others blocks small))
+    let blocks = blocks-small f (countFrom 0 n) (λ i m. omega (arith, countFrom-mem 0 n i m .1, whole .few)) in
+    small-all _ (small-append (causesOf (flatMap (blockDefects f) (countFrom 0 n))) others blocks small))
 
 load-fits : (w f : List ℕ) → Fits (loadCall w f .answer)
 unfolding loadCall loadOrder every
@@ -185,14 +230,20 @@ block-inside f i e =
     let both = or-false-iff (wrongBlockCount f) (leb (blocksIn f) i) .0 e in
     record { whole = wrongBlockCount-iff f .0 (both .0); inside = leb-false (blocksIn f) i (both .1) }
 
+rest-small : (f : List ℕ) (i : ℕ) → i < maxBlocks → SmallAll (causesOf (restDefects f i))
+unfolding restDefects every flatMap
+rest-small f zero h = refl
+rest-small f (suc i) h = layout-small (suc i) h (blockAt f (suc i)) (wrongCount f (suc i))
+
 block-fits : (f : List ℕ) (i : ℕ) → Fits (blockCall f i .answer)
-unfolding blockCall readCauses every
+unfolding blockCall readCauses
 block-fits f i =
     call-fits Fits fault-fits _ f [] _
     (small-first _ _ (lit< tt)
     (λ right.
     let b = block-inside f i right in
-    small-all _ (rw (lt-ltb i aValues (omega (arith, b .inside, b .whole .few))))))
+    let few : i < maxBlocks = omega (arith, b .inside, b .whole .few) in
+    small-all _ (small-join (startDefects (blockAt f i) i) (restDefects f i) (start-small i few (blockAt f i)) (rest-small f i few))))
     (λ e. lit< tt)
 
 part-few : (f : List ℕ) (i : ℕ) → firstFault (readCauses f i) ≡ none → length (partOf f i) ≤ length f

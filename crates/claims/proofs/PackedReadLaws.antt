@@ -10,7 +10,7 @@ use native.Mathlib.Omega.{arith}
 use lib.Dec.{eqb, lit<}
 use lib.ListN.{length}
 use borrow.Author.Tests.{eqb-true, eqb-false}
-use Rattle.grants_file.specs.Block.{blockBytes, recordsPlace}
+use Rattle.grants_file.specs.Layout.{blockBytes, recordsPlace}
 use Rattle.grants_file.specs.BlockRead.{partOf}
 use Rattle.c_api.specs.Pack.{numberValues, aValues, bValues, word, firstOf, packRefusal, packPart, listTooShort}
 use Rattle.claims.specs.PackedFits.{FitsRefusal, FitsPart}

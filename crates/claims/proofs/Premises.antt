@@ -38,8 +38,7 @@ use Rattle.model.specs.Book.{bookGrant, bookList, bookStep}
 use Rattle.model.specs.Histories.{Response, after}
 use Rattle.model.proofs.AnswerLaws.{refusal-accepted}
 use Rattle.grants_file.specs.Block.{sealed, headerBlock}
-use Rattle.grants_file.specs.File.{fileOf, blocksIn}
-use Rattle.grants_file.specs.Verdict.{wrongBlockCount}
+use Rattle.grants_file.specs.File.{fileOf, blocksIn, wrongBlockCount}
 use Rattle.grants_file.specs.BlockRead.{notInFile, readCauses}
 use Rattle.grants_file.specs.FileSets.{Accepted, DoorRange, ascending-none, ascending-more, FileSet, Ordering}
 use Rattle.grants_file.proofs.FileLaws.{length-fileOf, fileOf-below}

@@ -4,6 +4,7 @@
 use Prim.Native.Nat.{ℕ, _+_, _-_, _*_, _%_, _/_}
 use mathlib.Core.Bool.{Bool, true, false, cond}
 use mathlib.Core.List.{List, [], _∷_, _++_, map, flatMap}
+use mathlib.Core.Option.{Option, none, some}
 use lib.Dec.{T}
 use lib.ListN.{length, take, drop, getD, set, replicate}
 use Rattle.lists.specs.Tests.{filter, every, any, each, sameNumbers}
@@ -11,6 +12,7 @@ use Rattle.lists.specs.Ranges.{countFrom}
 use Rattle.lists.specs.Overwrite.{overwrite}
 use Rattle.lists.specs.Sort.{insertBy, sortBy}
 use Rattle.model.specs.declared.Box.{Box}
+use Rattle.model.specs.declared.Fault.{Fault}
 use Rattle.model.specs.declared.Grant.{Grant}
 use Rattle.model.specs.declared.Kind.the-variants.{Bars, Opens}
 use Rattle.model.specs.Interval.{Interval}
@@ -36,11 +38,12 @@ use Rattle.adt.specs.Insert.{descendFrom, descend, freeBroken, inserted}
 use Rattle.adt.specs.Remove.{follow, terminalFrom, replaced, unlinked, freed, removed}
 use Rattle.adt.specs.Links.{brokenBy, searchFrom, insertionFrom, removalFrom, searchLinks, insertionLinks, removalLinks, hitsAmong}
 use Rattle.checksum.specs.Checksum.{base256, checksum}
-use Rattle.grants_file.specs.Record.{encodeRecord, decodeRecord, wrongRecord, wrongRecords}
-use Rattle.grants_file.specs.Block.{sealed, headerBlock, recordBlock, recordsOf, wrongChecksum, wrongStart, wrongPadding}
-use Rattle.grants_file.specs.File.{fileOf, grantsIn}
-use Rattle.grants_file.specs.Verdict.{Verdict, accepted, refused, wrongBlockCount, wrongHeader, wrongLayout, lastBefore, wrongRecordsIn, blockCauses, fileCauses, verdict}
-use Rattle.grants_file.specs.BlockRead.{notInFile, wrongCount, wrongAlone, readCauses, partOf}
+use Rattle.grants_file.specs.Record.{encodeRecord, decodeRecord}
+use Rattle.grants_file.specs.Block.{sealed, headerBlock, recordBlock, recordsOf, wrongChecksum, wrongPadding}
+use Rattle.grants_file.specs.File.{fileOf, wrongBlockCount, doorsIn, grantsIn}
+use Rattle.grants_file.specs.Defects.{recordsDefects, lastBefore, contentDefects, fileDefects}
+use Rattle.grants_file.specs.Verdict.{fileCauses}
+use Rattle.grants_file.specs.BlockRead.{notInFile, wrongCount, restDefects, readCauses, partOf}
 use Rattle.calls.specs.Causes.{grantBroken, revokeBroken}
 use Rattle.calls.specs.LinkCauses.{searchMeets9, searchHits, grantMeets9, revokeMeets9}
 use Rattle.calls.specs.Order.{startOrder, grantOrder, revokeOrder, listOrder, lookOrder, writeOrder, loadOrder, matchOrder}
@@ -116,9 +119,13 @@ two =
     ∷ record { number = 300; rank = 255; kind = Bars; bounds = box 0 65535 50 60 0 1 }
     ∷ []
 
-abbrev verdictNumbers : Verdict → List ℕ
-verdictNumbers (accepted d gs) = 0 ∷ d .from ∷ d .to ∷ flatMap grantValues gs
-verdictNumbers (refused f) = faultNumber f ∷ faultValues f
+-- the doors and grants of an accepted file, or the fault of a refused one
+abbrev verdictBy : List ℕ → Option Fault → List ℕ
+verdictBy f none = 0 ∷ doorsIn f .from ∷ doorsIn f .to ∷ flatMap grantValues (grantsIn f)
+verdictBy f (some fault) = faultNumber fault ∷ faultValues fault
+
+abbrev verdictNumbers : List ℕ → List ℕ
+verdictNumbers f = verdictBy f (firstFault (fileCauses f))
 
 -- the grants that touch the doors: 7 and 9
 abbrev touchingTwo : List Grant → List Grant
@@ -186,11 +193,11 @@ cases =
     }
     ∷ record { given = drop 552 (take 1022 (fileOf doors two)); wanted = replicate 470 0 }
     ∷ record { given = take 2 (drop 510 (fileOf doors two)) ++ drop 1022 (fileOf doors two); wanted = 135 ∷ 176 ∷ 31 ∷ 83 ∷ [] }
-    ∷ record { given = verdictNumbers (verdict (fileOf doors two)); wanted = 0 ∷ 40 ∷ 50 ∷ flatMap grantValues two }
+    ∷ record { given = verdictNumbers (fileOf doors two); wanted = 0 ∷ 40 ∷ 50 ∷ flatMap grantValues two }
     -- a byte of it changed; its doors made 41 to 50 with the check made right, so that grant 7 no longer touches them; no file
-    ∷ record { given = verdictNumbers (verdict (set (fileOf doors two) 600 1)); wanted = 12 ∷ 1 ∷ [] }
-    ∷ record { given = verdictNumbers (verdict (fileOf (record { from = 41; to = 50 }) two)); wanted = 13 ∷ 1 ∷ [] }
-    ∷ record { given = verdictNumbers (verdict []); wanted = one 10 }
+    ∷ record { given = verdictNumbers (set (fileOf doors two) 600 1); wanted = 12 ∷ 1 ∷ [] }
+    ∷ record { given = verdictNumbers (fileOf (record { from = 41; to = 50 }) two); wanted = 13 ∷ 1 ∷ [] }
+    ∷ record { given = verdictNumbers []; wanted = one 10 }
     ∷ record { given = partOf (fileOf doors two) 1; wanted = flatMap encodeRecord two }
     ∷ record { given = partOf (fileOf doors two) 0; wanted = [] }
     -- written for its doors after the history, whole and not clipped; held against the pool; loaded elsewhere
@@ -204,5 +211,12 @@ cases =
     ∷ []
 
 pub tried-cases : T (passed cases)
-unfolding filter every any each sameNumbers countFrom overwrite insertBy sortBy overlaps sameGrant firstFault refusing reversedBox outranks decidingOf decideAmong bookGrant bookRevoke bookList bookDecide bookCount bookStep rootRegion half meets pointOf inside rangeOfBox rangeOfDoors rangeOfNumber place fieldOf capacityOf wrongLength wrongPool grantAt withCell freeCells freshPool meet visitBy enter search descendFrom descend freeBroken inserted follow terminalFrom replaced unlinked freed removed grantBroken revokeBroken startOrder grantOrder revokeOrder listOrder lookOrder startCall grantCall revokeCall listCall decideCall countCall wordsStep responses after base256 checksum encodeRecord decodeRecord wrongRecord wrongRecords sealed headerBlock recordBlock recordsOf wrongChecksum wrongStart wrongPadding fileOf grantsIn wrongBlockCount wrongHeader wrongLayout lastBefore wrongRecordsIn blockCauses fileCauses verdict notInFile wrongCount wrongAlone readCauses partOf writeOrder loadOrder matchOrder writeCall grantAll loadCall firstDifference matchCall mathlib.Core.List.flatMap
+unfolding filter every any each sameNumbers countFrom overwrite insertBy sortBy overlaps sameGrant firstFault refusing reversedBox outranks decidingOf
+    decideAmong bookGrant bookRevoke bookList bookDecide bookCount bookStep rootRegion half meets pointOf inside rangeOfBox rangeOfDoors rangeOfNumber
+    place fieldOf capacityOf wrongLength wrongPool grantAt withCell freeCells freshPool meet visitBy enter search descendFrom descend freeBroken inserted
+    follow terminalFrom replaced unlinked freed removed grantBroken revokeBroken startOrder grantOrder revokeOrder listOrder lookOrder startCall
+    grantCall revokeCall listCall decideCall countCall wordsStep responses after base256 checksum encodeRecord decodeRecord sealed headerBlock recordBlock
+    recordsOf wrongChecksum wrongPadding fileOf grantsIn wrongBlockCount recordsDefects lastBefore contentDefects fileDefects fileCauses notInFile
+    wrongCount restDefects readCauses partOf writeOrder loadOrder matchOrder writeCall grantAll loadCall firstDifference matchCall
+    mathlib.Core.List.flatMap
 tried-cases = tt

@@ -38,8 +38,8 @@ use Rattle.model.specs.Book.{Book, emptyBook, bookStep}
 use Rattle.geometry.specs.Point.{inside, pointOf}
 use Rattle.geometry.specs.SearchRange.{rangeOfBox, rangeOfDoors, rangeOfNumber, rangeOfAll}
 use Rattle.pool.specs.Capacity.{Sized, wrongLength, wrongPool}
+use Rattle.grants_file.specs.Layout.{blockBytes}
 use Rattle.grants_file.specs.Record.{encodeRecord}
-use Rattle.grants_file.specs.Block.{blockBytes}
 use Rattle.grants_file.specs.File.{chunk, fileOf, blocksIn, doorsIn, grantsIn}
 use Rattle.grants_file.specs.BlockRead.{readCauses, partOf}
 use Rattle.calls.specs.LinkCauses.{searchMeets9, searchHits, grantMeets9, revokeMeets9}

@@ -16,7 +16,7 @@ use Rattle.model.specs.Interval.{Interval}
 use Rattle.model.specs.Answer.{Answer, accepted, refused}
 use Rattle.model.specs.Call.{Request}
 use Rattle.model.specs.Values.{wordValues, byteValues, Below}
-use Rattle.grants_file.specs.Block.{blockBytes, recordsPlace}
+use Rattle.grants_file.specs.Layout.{blockBytes, recordsPlace}
 use Rattle.grants_file.specs.BlockRead.{partOf}
 use Rattle.calls.specs.Calls.{startCall, grantCall, revokeCall, listCall, decideCall, countCall}
 use Rattle.calls.specs.FileCalls.{writeCall, loadCall, matchCall, blockCall}

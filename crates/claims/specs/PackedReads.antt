@@ -9,7 +9,7 @@ use mathlib.Core.List.{List}
 use lib.Dec.{eqb}
 use lib.ListN.{length}
 use Rattle.model.specs.Answer.{accepted}
-use Rattle.grants_file.specs.Block.{blockBytes, recordsPlace}
+use Rattle.grants_file.specs.Layout.{blockBytes, recordsPlace}
 use Rattle.grants_file.specs.BlockRead.{partOf}
 use Rattle.c_api.specs.Pack.{numberValues, aValues, firstOf, secondOf, packRefusal, pack, packPair, packLength, packPart, listTooShort}
 use Rattle.claims.specs.PackedFits.{FitsRefusal, Fits, FitsPair, FitsLength, FitsPart}

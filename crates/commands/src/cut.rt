@@ -10,7 +10,7 @@ use console::output::say;
 use console::output::warn;
 use console::output::warn_reason;
 use file_calls::write::write;
-use grants_file::file::MAX_BYTES;
+use grants_file::layout::MAX_BYTES;
 use model::Written;
 use pool::layout::MAX_WORDS;
 use question::Number;

@@ -1,6 +1,7 @@
 // The commands of the program of the three levels: each reads its files, calls the proved libraries and prints what they answer.
 mod common;
 pub mod cut;
+mod defects;
 mod head_office;
 pub mod help;
 pub mod matching;

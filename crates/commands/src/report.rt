@@ -1,66 +1,84 @@
-// What is said of a bank's file: its verdict, its doors, its grants.
+// What is said of a bank's file: its verdict, its doors, its grants. Each job validates the file once.
+ghost use Rattle.grants_file.specs.FileSets.{Accepted};
+use crate::defects::say_defect;
 use crate::table::say_grant;
 use crate::table::say_heads;
 use console::output::end;
 use console::output::say;
 use console::output::say_number;
-use file_view::Doors;
-use file_view::Entry;
-use file_view::contents::doors_of;
-use file_view::contents::total_of;
-use file_view::flaws::flaw_of;
-use file_view::lookup::nth;
-use file_view::words::FLAW_BYTES;
-use file_view::words::flaw_line;
+use grants_file::defects::is_wrong;
+use grants_file::grants::first_door;
+use grants_file::grants::grant_in;
+use grants_file::grants::last_door;
+use grants_file::grants::total_in;
+use grants_file::validate::validate;
 
 // The verdict in words, with the block and what is wrong in it.
 pub fn say_verdict(file: &[u8]) {
-    let mut out = [0u8; FLAW_BYTES];
-    let n = flaw_line(flaw_of(file), &mut out);
-    end(&out[..n]);
+    say_defect(validate(file));
 }
 
-// The doors that a file was cut for, how many grants it holds, and its length.
-pub fn say_contents(file: &[u8]) {
-    let doors = doors_of(file);
-    let Doors::Are { from, to } = doors else {
-        return;
-    };
+// Doors, how many grants, and how many bytes.
+fn say_sizes(from: u16, to: u16, total: usize, bytes: usize) {
     say(b"doors ");
     say_number(from as usize);
     say(b" to ");
     say_number(to as usize);
     say(b", ");
-    say_number(total_of(file));
+    say_number(total);
     say(b" grants, ");
-    say_number(file.len());
+    say_number(bytes);
     end(b" bytes\n");
 }
 
-pub fn check(file: &[u8]) {
-    say_verdict(file);
-    say_contents(file);
+// The doors of an accepted file, how many grants it holds, and its length.
+fn say_holdings(file: &[u8])
+    requires { ⌜ Accepted (now file) ⌝ }
+{
+    say_sizes(
+        first_door(file),
+        last_door(file),
+        total_in(file),
+        file.len(),
+    );
 }
 
-// The rows of a file's grants, ascending.
-fn say_rows(file: &[u8]) {
-    let total = total_of(file);
+// The doors that a file was cut for, and what it holds. Of a refused file nothing.
+pub fn say_contents(file: &[u8]) {
+    if is_wrong(validate(file)) {
+        return;
+    }
+    say_holdings(file);
+}
+
+pub fn check(file: &[u8]) {
+    let defect = validate(file);
+    say_defect(defect);
+    if is_wrong(defect) {
+        return;
+    }
+    say_holdings(file);
+}
+
+// The rows of an accepted file's grants, ascending.
+fn say_rows(file: &[u8])
+    requires { ⌜ Accepted (now file) ⌝ }
+{
+    let total = total_in(file);
     let mut i: usize = 0;
     while i < total {
-        let Entry::Is(g) = nth(file, i) else {
-            return;
-        };
-        say_grant(g);
+        say_grant(grant_in(file, i));
         i += 1;
     }
 }
 
 pub fn show(file: &[u8]) {
-    let Doors::Are { .. } = doors_of(file) else {
-        say_verdict(file);
+    let defect = validate(file);
+    if is_wrong(defect) {
+        say_defect(defect);
         return;
-    };
+    }
     say_heads();
     say_rows(file);
-    say_contents(file);
+    say_holdings(file);
 }

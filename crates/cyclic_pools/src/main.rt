@@ -3,7 +3,7 @@
 // empty index.
 use file_calls::matching::match_file;
 use file_calls::write::write;
-use grants_file::file::MAX_BYTES;
+use grants_file::layout::MAX_BYTES;
 use index::start::start;
 use libc::STDOUT_FILENO;
 use model::MAX_GRANTS;

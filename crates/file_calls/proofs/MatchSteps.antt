@@ -24,8 +24,8 @@ use Rattle.pool.specs.Cell.{grantAt}
 use Rattle.pool.specs.Capacity.{poolCapacity}
 use Rattle.grants_file.specs.File.{doorsIn, grantsIn}
 use Rattle.grants_file.specs.Verdict.{fileCauses}
-use Rattle.grants_file.specs.FileSets.{Accepted}
 use Rattle.grants_file.specs.Answers.{fileAnswer}
+use Rattle.grants_file.specs.FileSets.{Accepted}
 use Rattle.grants_file.proofs.GrantSteps.{answer-accepted, answer-refused}
 use Rattle.index.specs.declared.hits.Hits.{Hits}
 use Rattle.index.specs.declared.hits.Hits.the-variants.{Broken, Found}

@@ -22,8 +22,9 @@ use Rattle.model.specs.declared.Grant.{Grant}
 use Rattle.model.specs.Limits.{maxGrants}
 use Rattle.model.specs.Interval.{Interval}
 use Rattle.pool.specs.Cell.{grantAt}
-use Rattle.grants_file.specs.Record.{recordBytes, encodeRecord}
-use Rattle.grants_file.specs.Block.{blockBytes, recordsPlace, recordsPerBlock, sealed, headerBlock, recordBlock}
+use Rattle.grants_file.specs.Layout.{recordBytes, blockBytes, recordsPlace, recordsPerBlock}
+use Rattle.grants_file.specs.Record.{encodeRecord}
+use Rattle.grants_file.specs.Block.{sealed, headerBlock, recordBlock}
 use Rattle.grants_file.specs.File.{recordBlocks, blocksFor, countIn, chunk, fileOf}
 use Rattle.grants_file.proofs.BlockLaws.{length-headerBlock, length-recordBlock}
 use Rattle.grants_file.proofs.RecordLaws.{length-encodeRecord}

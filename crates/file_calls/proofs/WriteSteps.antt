@@ -22,7 +22,7 @@ use Rattle.geometry.specs.SearchRange.{rangeOfDoors}
 use Rattle.pool.specs.Cell.{grantAt}
 use Rattle.pool.specs.Capacity.{wrongPool, poolCapacity}
 use Rattle.adt.specs.Search.{Search}
-use Rattle.grants_file.specs.Block.{blockBytes}
+use Rattle.grants_file.specs.Layout.{blockBytes}
 use Rattle.grants_file.specs.File.{blocksFor, fileOf}
 use Rattle.index.specs.declared.hits.Hits.{Hits}
 use Rattle.index.specs.declared.hits.Hits.the-variants.{Broken, Found}

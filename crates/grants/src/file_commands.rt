@@ -9,7 +9,7 @@ use commands::report::show;
 use console::arguments::are;
 use console::output::warn;
 use console::output::warn_reason;
-use grants_file::file::MAX_BYTES;
+use grants_file::layout::MAX_BYTES;
 
 // One byte more than the longest file has, so that a longer one is seen to be longer.
 const ROOM: usize = MAX_BYTES + 1;

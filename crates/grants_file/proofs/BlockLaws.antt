@@ -1,5 +1,5 @@
 -- Laws of specs/Block: what is read in a block as it is written, and that a block which passes is one that was written.
---   length-, wrongChecksum-, wrongStart-, wrongPadding-     of sealed, headerBlock and recordBlock: 512 bytes, and no cause of 11 or 12
+--   length-, wrongChecksum-, hasMagic-, number-, wrongPadding-    of sealed, headerBlock and recordBlock: 512 bytes, and no cause of 11 or 12
 --   countOf-recordBlock, recordsOf-recordBlock              the records that were written
 --   length-decoded, recordsOf-mem                           as many grants as are read, each from 16 bytes
 --   sealed-take                                             512 bytes of right check and fill are sealed
@@ -9,7 +9,7 @@
 -- Assumes nothing.
 use Prim.Native.Nat.{ℕ, zero, suc, _+_, _-_, _*_, _≤_, _<_}
 use mathlib.Core.Path.{_≡_, refl, sym, ap, ap₂, _∙_}
-use mathlib.Core.Bool.{false, not}
+use mathlib.Core.Bool.{true, false, not}
 use mathlib.Core.List.{List, _∷_, _++_, map, flatMap, append-assoc, List·Memᴰ, Memᴰ·of-map}
 use native.Mathlib.Omega.{arith}
 use native.Mathlib.Numerals.{add-one}
@@ -22,15 +22,15 @@ use Rattle.lists.specs.Tests.{sameNumbers}
 use Rattle.lists.specs.Ranges.{countFrom}
 use Rattle.lists.proofs.RangeLaws.{length-countFrom}
 use Rattle.lists.proofs.ListLaws.{countFrom-mem, elements-joined, parts-joined, parts-flatMap, map-same, flatMap-same, flatMap-map, length-flatMap, sameNumbers-true, every-zero, zero-every}
-use Rattle.lists.proofs.OrLaws.{or-false-iff}
 use Rattle.model.specs.declared.Grant.{Grant}
 use Rattle.model.specs.Interval.{Interval}
 use Rattle.model.specs.Values.{wordValues, byteValues, Below, GrantFits}
 use Rattle.checksum.specs.Checksum.{checksum}
 use Rattle.checksum.proofs.ChecksumLaws.{checksum-lt}
+use Rattle.grants_file.specs.Layout.{blockBytes, magic, numberPlace, checksumPlace, headerEnd, recordsPlace, recordBytes, recordsPerBlock, recordPlace}
 use Rattle.grants_file.specs.Bytes.{be16, be16At, bytesAt}
-use Rattle.grants_file.specs.Record.{recordBytes, encodeRecord, decodeRecord, kindByte}
-use Rattle.grants_file.specs.Block.{blockBytes, checksumPlace, recordsPlace, headerEnd, recordsPerBlock, magic, sealed, headerBlock, recordBlock, countOf, recordsOf, wrongChecksum, wrongStart, wrongPadding}
+use Rattle.grants_file.specs.Record.{encodeRecord, decodeRecord, kindByte}
+use Rattle.grants_file.specs.Block.{sealed, headerBlock, recordBlock, countOf, recordsOf, hasMagic, wrongChecksum, wrongPadding}
 use Rattle.grants_file.proofs.BytesLaws.{below-nil, below-cons, below-append, below-flatMap, bytesAt-below, be16-below, be16-be16At}
 use Rattle.grants_file.proofs.RecordLaws.{length-encodeRecord, encodeRecord-below, encode-decode}
 
@@ -73,9 +73,13 @@ wrongPadding-sealed body at h e = rw (take-sealed body h, drop-at body _ at e) (
 abbrev opening : ℕ → List ℕ
 opening i = magic ++ be16 i
 
-pub wrongStart-sealed : (i : ℕ) (rest : List ℕ) → wrongStart (sealed (opening i ++ rest)) i ≡ false
-unfolding wrongStart sealed sameNumbers
-wrongStart-sealed i rest = ap not (eq-eqb _ _ (div-add-mod' i 256))
+hasMagic-sealed : (i : ℕ) (rest : List ℕ) → hasMagic (sealed (opening i ++ rest)) ≡ true
+unfolding sealed sameNumbers
+hasMagic-sealed i rest = refl
+
+number-sealed : (i : ℕ) (rest : List ℕ) → be16At (sealed (opening i ++ rest)) numberPlace ≡ i
+unfolding sealed
+number-sealed i rest = div-add-mod' i 256
 
 module _ (n : ℕ) (doors : Interval) where
   pub length-headerBlock : length (headerBlock n doors) ≡ blockBytes
@@ -86,9 +90,13 @@ module _ (n : ℕ) (doors : Interval) where
   unfolding headerBlock
   wrongChecksum-headerBlock = wrongChecksum-sealed _ (omega arith)
 
-  pub wrongStart-headerBlock : wrongStart (headerBlock n doors) 0 ≡ false
+  pub hasMagic-headerBlock : hasMagic (headerBlock n doors) ≡ true
   unfolding headerBlock
-  wrongStart-headerBlock = wrongStart-sealed 0 (be16 n ++ be16 (doors .from) ++ be16 (doors .to))
+  hasMagic-headerBlock = hasMagic-sealed 0 (be16 n ++ be16 (doors .from) ++ be16 (doors .to))
+
+  pub number-headerBlock : be16At (headerBlock n doors) numberPlace ≡ 0
+  unfolding headerBlock
+  number-headerBlock = number-sealed 0 (be16 n ++ be16 (doors .from) ++ be16 (doors .to))
 
   pub wrongPadding-headerBlock : wrongPadding (headerBlock n doors) headerEnd ≡ false
   unfolding headerBlock
@@ -98,7 +106,7 @@ module _ (n : ℕ) (doors : Interval) where
 recordBody : ℕ → List Grant → List ℕ
 recordBody i gs = magic ++ be16 i ++ be16 (length gs) ++ flatMap encodeRecord gs
 
-length-recordBody : (i : ℕ) (gs : List Grant) → length (recordBody i gs) ≡ recordsPlace + recordBytes * length gs
+length-recordBody : (i : ℕ) (gs : List Grant) → length (recordBody i gs) ≡ recordPlace (length gs)
 unfolding recordBody
 length-recordBody i gs = omega (arith, length-flatMap encodeRecord recordBytes gs (λ g m. length-encodeRecord g))
 
@@ -124,17 +132,21 @@ module _ (i : ℕ) (gs : List Grant) (few : length gs ≤ recordsPerBlock) where
   unfolding recordBlock recordBody
   wrongChecksum-recordBlock = wrongChecksum-sealed (recordBody i gs) short
 
-  pub wrongStart-recordBlock : wrongStart (recordBlock i gs) i ≡ false
+  pub hasMagic-recordBlock : hasMagic (recordBlock i gs) ≡ true
   unfolding recordBlock
-  wrongStart-recordBlock = wrongStart-sealed i (be16 (length gs) ++ flatMap encodeRecord gs)
+  hasMagic-recordBlock = hasMagic-sealed i (be16 (length gs) ++ flatMap encodeRecord gs)
+
+  pub number-recordBlock : be16At (recordBlock i gs) numberPlace ≡ i
+  unfolding recordBlock
+  number-recordBlock = number-sealed i (be16 (length gs) ++ flatMap encodeRecord gs)
 
   pub countOf-recordBlock : countOf (recordBlock i gs) ≡ length gs
   unfolding recordBlock sealed
   countOf-recordBlock = div-add-mod' (length gs) 256
 
-  pub wrongPadding-recordBlock : wrongPadding (recordBlock i gs) (recordsPlace + recordBytes * countOf (recordBlock i gs)) ≡ false
+  pub wrongPadding-recordBlock : wrongPadding (recordBlock i gs) (recordPlace (countOf (recordBlock i gs))) ≡ false
   unfolding recordBlock recordBody
-  wrongPadding-recordBlock = rw countOf-recordBlock (wrongPadding-sealed (recordBody i gs) (recordsPlace + recordBytes * length gs) short (length-recordBody i gs))
+  wrongPadding-recordBlock = rw countOf-recordBlock (wrongPadding-sealed (recordBody i gs) (recordPlace (length gs)) short (length-recordBody i gs))
 
   pub recordsOf-recordBlock : recordsOf (recordBlock i gs) (length gs) ≡ map encodeRecord gs
   unfolding recordBlock sealed
@@ -165,18 +177,14 @@ module _ (b : List ℕ) (long : length b ≡ blockBytes) (below : Below byteValu
       ∙ ap (λ (l : List ℕ). take checksumPlace b ++ l) stored
       ∙ ap (λ (l : List ℕ). l ++ be16 (checksum l)) (sym (covered-take at h e))
 
-  pub take-start : (i : ℕ) → wrongStart b i ≡ false → take 6 b ≡ opening i
-  unfolding wrongStart
-  take-start i e =
-      let both = or-false-iff (not (sameNumbers (take 4 b) magic)) (not (eqb (be16At b 4) i)) .0 e in
-      let number : be16At b 4 ≡ i = eqb-true (be16At b 4) i (not-false _ (both .1)) in
-      take-add 4 2 b ∙ ap₂ _++_ (sameNumbers-true (take 4 b) magic (not-false _ (both .0))) (pair 4 (omega arith) ∙ ap be16 number)
+  take-start : (i : ℕ) → hasMagic b ≡ true → be16At b numberPlace ≡ i → take 6 b ≡ opening i
+  take-start i mark number = take-add 4 2 b ∙ ap₂ _++_ (sameNumbers-true (take 4 b) magic mark) (pair numberPlace (omega arith) ∙ ap be16 number)
 
-  pub headerBlock-take : wrongChecksum b ≡ false → wrongStart b 0 ≡ false → wrongPadding b headerEnd ≡ false
+  pub headerBlock-take : wrongChecksum b ≡ false → hasMagic b ≡ true → be16At b numberPlace ≡ 0 → wrongPadding b headerEnd ≡ false
       → b ≡ headerBlock (be16At b 6) (record { from = be16At b 8; to = be16At b 10 })
   unfolding headerBlock
-  headerBlock-take right start fill =
-      let front : take 8 b ≡ opening 0 ++ be16 (be16At b 6) = take-add 6 2 b ∙ ap₂ _++_ (take-start 0 start) (pair 6 (omega arith)) in
+  headerBlock-take right mark number fill =
+      let front : take 8 b ≡ opening 0 ++ be16 (be16At b 6) = take-add 6 2 b ∙ ap₂ _++_ (take-start 0 mark number) (pair 6 (omega arith)) in
       let longer : take 10 b ≡ opening 0 ++ be16 (be16At b 6) ++ be16 (be16At b 8) = take-add 8 2 b ∙ ap₂ _++_ front (pair 8 (omega arith)) in
       sealed-take headerEnd (omega arith) right fill ∙ ap sealed (take-add 10 2 b ∙ ap₂ _++_ longer (pair 10 (omega arith)))
 
@@ -184,11 +192,11 @@ module _ (b : List ℕ) (long : length b ≡ blockBytes) (below : Below byteValu
   pub recordsOf-mem : (n : ℕ) → n ≤ recordsPerBlock → (r : List ℕ) → List·Memᴰ r (recordsOf b n) → (length r ≡ recordBytes) × Below byteValues r
   unfolding recordsOf
   recordsOf-mem n few r m =
-      let place = Memᴰ·of-map (λ (k : ℕ). bytesAt b (recordsPlace + recordBytes * k) recordBytes) (countFrom 0 n) m in
+      let place = Memᴰ·of-map (λ (k : ℕ). bytesAt b (recordPlace k) recordBytes) (countFrom 0 n) m in
       let inside = countFrom-mem 0 n (place .0) (place .1) in
-      let size : length (bytesAt b (recordsPlace + recordBytes * place .0) recordBytes) ≡ recordBytes = simp (length-take, length-drop) (omega arith) in (
+      let size : length (bytesAt b (recordPlace (place .0)) recordBytes) ≡ recordBytes = simp (length-take, length-drop) (omega arith) in (
         sym (ap length (place .2)) ∙ size,
-        rw (← place .2) (bytesAt-below byteValues b (recordsPlace + recordBytes * place .0) recordBytes below),
+        rw (← place .2) (bytesAt-below byteValues b (recordPlace (place .0)) recordBytes below),
       )
 
   pub records-joined : (n : ℕ) → n ≤ recordsPerBlock → ((r : List ℕ) → List·Memᴰ r (recordsOf b n) → kindByte r ≤ 1)
@@ -202,14 +210,14 @@ module _ (b : List ℕ) (long : length b ≡ blockBytes) (below : Below byteValu
       same : (r : List ℕ) → List·Memᴰ r (recordsOf b n) → encodeRecord (decodeRecord r) ≡ r
       same r m = let known = recordsOf-mem n few r m in encode-decode r (known .0) (known .1) (kinds r m)
 
-  pub recordBlock-take : (i : ℕ) → countOf b ≤ recordsPerBlock → wrongChecksum b ≡ false → wrongStart b i ≡ false
-      → wrongPadding b (recordsPlace + recordBytes * countOf b) ≡ false
+  pub recordBlock-take : (i : ℕ) → countOf b ≤ recordsPerBlock → wrongChecksum b ≡ false → hasMagic b ≡ true → be16At b numberPlace ≡ i
+      → wrongPadding b (recordPlace (countOf b)) ≡ false
       → ((r : List ℕ) → List·Memᴰ r (recordsOf b (countOf b)) → kindByte r ≤ 1)
       → b ≡ recordBlock i (map decodeRecord (recordsOf b (countOf b)))
   unfolding recordBlock
-  recordBlock-take i few right start fill kinds =
-      let front : take 8 b ≡ opening i ++ be16 (countOf b) = take-add 6 2 b ∙ ap₂ _++_ (take-start i start) (pair 6 (omega arith)) in
-      sealed-take (recordsPlace + recordBytes * countOf b) (omega arith) right fill
+  recordBlock-take i few right mark number fill kinds =
+      let front : take 8 b ≡ opening i ++ be16 (countOf b) = take-add 6 2 b ∙ ap₂ _++_ (take-start i mark number) (pair 6 (omega arith)) in
+      sealed-take (recordPlace (countOf b)) (omega arith) right fill
       ∙ ap sealed (take-add recordsPlace (recordBytes * countOf b) b ∙ ap₂ _++_ front (records-joined (countOf b) few kinds))
       ∙ ap (λ (n : ℕ). sealed (opening i ++ be16 n ++ flatMap encodeRecord (map decodeRecord (recordsOf b (countOf b))))) (sym (length-decoded b (countOf b)))
 

@@ -1,12 +1,11 @@
 -- The tests of a block, one after the other, as the code makes them.
 --   magic-first, magic-second, magic-third, magic-fourth     the mark, byte by byte
---   start-number, start-magic                   the block's number where the mark stands, and a wrong mark
 --   padding-found, padding-next, padding-end    the fill from a place on, a byte at a time
---   records-start, records-cons, records-wrong, records-next, records-end   the records left, one at a time
+--   records-start, records-cons                 the records left, one at a time
 -- Assumes nothing.
-use Prim.Native.Nat.{ℕ, suc, _+_, _-_, _*_, _<_, _≤_}
+use Prim.Native.Nat.{ℕ, suc, _+_, _-_, _<_, _≤_}
 use mathlib.Core.Path.{_≡_, refl, sym, ap, _∙_}
-use mathlib.Core.Bool.{Bool, true, false, not, and-true}
+use mathlib.Core.Bool.{Bool, true, false, and-true}
 use mathlib.Core.List.{List, [], _∷_, map}
 use native.Mathlib.Nat.{sub-zero}
 use native.Mathlib.Numerals.{add-one}
@@ -17,11 +16,9 @@ use lib.Seq.{drop-cons, getD-take, length-take-le}
 use borrow.Author.Tests.{ne-eqb}
 use Rattle.lists.specs.Tests.{every, sameNumbers}
 use Rattle.lists.specs.Ranges.{countFrom}
-use Rattle.model.specs.Interval.{Interval}
-use Rattle.grants_file.specs.Bytes.{be16At}
-use Rattle.grants_file.specs.Record.{recordBytes, wrongRecord, wrongRecords}
-use Rattle.grants_file.specs.Block.{checksumPlace, recordsPlace, magic, recordsOf, wrongStart}
-use Rattle.grants_file.proofs.RecordSteps.{recordAt, number-at}
+use Rattle.grants_file.specs.Layout.{checksumPlace, recordPlace}
+use Rattle.grants_file.specs.Block.{recordsOf, hasMagic}
+use Rattle.grants_file.proofs.RecordSteps.{recordAt}
 
 take-four : (b : List ℕ) → 4 ≤ length b → take 4 b ≡ getD b 0 0 ∷ getD b 1 0 ∷ getD b 2 0 ∷ getD b 3 0 ∷ []
 take-four [] h = absurd (omega arith)
@@ -31,32 +28,23 @@ take-four (v ∷ w ∷ x ∷ []) h = absurd (omega arith)
 take-four (v ∷ w ∷ x ∷ y ∷ b) h = refl
 
 module _ (b : List ℕ) (long : 4 ≤ length b) where
-  pub magic-first : (getD b 0 0 ≡ 0x4C → ⊥) → false ≡ sameNumbers (take (length magic) b) magic
+  pub magic-first : (getD b 0 0 ≡ 0x4C → ⊥) → false ≡ hasMagic b
   unfolding sameNumbers
   magic-first h = rw (take-four b long, ne-eqb (getD b 0 0) 0x4C h)
 
   module _ (first : getD b 0 0 ≡ 0x4C) where
-    pub magic-second : (getD b 1 0 ≡ 0x47 → ⊥) → false ≡ sameNumbers (take (length magic) b) magic
+    pub magic-second : (getD b 1 0 ≡ 0x47 → ⊥) → false ≡ hasMagic b
     unfolding sameNumbers
     magic-second h = rw (take-four b long, first, ne-eqb (getD b 1 0) 0x47 h)
 
     module _ (second : getD b 1 0 ≡ 0x47) where
-      pub magic-third : (getD b 2 0 ≡ 0x46 → ⊥) → false ≡ sameNumbers (take (length magic) b) magic
+      pub magic-third : (getD b 2 0 ≡ 0x46 → ⊥) → false ≡ hasMagic b
       unfolding sameNumbers
       magic-third h = rw (take-four b long, first, second, ne-eqb (getD b 2 0) 0x46 h)
 
-      pub magic-fourth : getD b 2 0 ≡ 0x46 → eqb (getD b 3 0) 0x31 ≡ sameNumbers (take (length magic) b) magic
+      pub magic-fourth : getD b 2 0 ≡ 0x46 → eqb (getD b 3 0) 0x31 ≡ hasMagic b
       unfolding sameNumbers
       magic-fourth h = rw (take-four b long, first, second, h) (sym (and-true (eqb (getD b 3 0) 0x31)))
-
-module _ (b : List ℕ) (number : ℕ) where
-  pub start-number : true ≡ sameNumbers (take (length magic) b) magic → not (eqb (be16At b 4) number) ≡ wrongStart b number
-  unfolding wrongStart
-  start-number h = rw (← h)
-
-  pub start-magic : false ≡ sameNumbers (take (length magic) b) magic → true ≡ wrongStart b number
-  unfolding wrongStart
-  start-magic h = rw (← h)
 
 -- the bytes of the fill from a place on are zero
 abbrev pub zerosFrom : List ℕ → ℕ → Bool
@@ -85,29 +73,13 @@ module _ (b : List ℕ) (at : ℕ) (long : checksumPlace ≤ length b) where
 
 -- the records from the i-th on, of n
 abbrev pub recordsFrom : List ℕ → ℕ → ℕ → List (List ℕ)
-recordsFrom b i n = map (λ r. recordAt b (recordsPlace + recordBytes * r)) (countFrom i (n - i))
+recordsFrom b i n = map (λ r. recordAt b (recordPlace r)) (countFrom i (n - i))
 
-module _ (doors : Interval) (last : ℕ) (b : List ℕ) (i n : ℕ) where
-  pub records-cons : i < n → recordsFrom b i n ≡ recordAt b (recordsPlace + recordBytes * i) ∷ recordsFrom b (i + 1) n
-  unfolding countFrom
-  records-cons h =
-      let e : n - i ≡ suc (n - (i + 1)) = omega arith in
-      rw (e, add-one i)
-
-  pub records-wrong : i < n → true ≡ wrongRecord doors last (recordAt b (recordsPlace + recordBytes * i)) → true ≡ wrongRecords doors last (recordsFrom b i n)
-  unfolding wrongRecords
-  records-wrong h e = rw (records-cons h, ← e)
-
-  pub records-next : i < n → false ≡ wrongRecord doors last (recordAt b (recordsPlace + recordBytes * i))
-      → wrongRecords doors last (recordsFrom b i n) ≡ wrongRecords doors (be16At b (recordsPlace + recordBytes * i)) (recordsFrom b (i + 1) n)
-  unfolding wrongRecords
-  records-next h e = rw (records-cons h, ← e, number-at b (recordsPlace + recordBytes * i))
-
-  pub records-end : n ≤ i → false ≡ wrongRecords doors last (recordsFrom b i n)
-  unfolding wrongRecords countFrom
-  records-end h =
-      let e : n - i ≡ 0 = omega arith in
-      rw e
+pub records-cons : (b : List ℕ) (i n : ℕ) → i < n → recordsFrom b i n ≡ recordAt b (recordPlace i) ∷ recordsFrom b (i + 1) n
+unfolding countFrom
+records-cons b i n h =
+    let e : n - i ≡ suc (n - (i + 1)) = omega arith in
+    rw (e, add-one i)
 
 pub records-start : (b : List ℕ) (n : ℕ) → recordsOf b n ≡ recordsFrom b 0 n
 unfolding recordsOf

@@ -21,9 +21,10 @@ use Rattle.lists.proofs.ListLaws.{take-mem, drop-mem, countFrom-suc, countFrom-
 use Rattle.model.specs.declared.Grant.{Grant}
 use Rattle.model.specs.Interval.{Interval}
 use Rattle.model.specs.Values.{byteValues, Below}
+use Rattle.grants_file.specs.Layout.{blockBytes, recordsPerBlock}
 use Rattle.grants_file.specs.Bytes.{bytesAt}
 use Rattle.grants_file.specs.Record.{encodeRecord, decodeRecord}
-use Rattle.grants_file.specs.Block.{blockBytes, recordsPerBlock, sealed, headerBlock, recordBlock, recordsOf}
+use Rattle.grants_file.specs.Block.{sealed, headerBlock, recordBlock, recordsOf}
 use Rattle.grants_file.specs.File.{recordBlocks, blocksFor, countIn, chunk, fileOf, blocksIn, blockAt, totalIn, doorsIn, grantsIn}
 use Rattle.grants_file.specs.FileSets.{FileSet}
 use Rattle.grants_file.proofs.BytesLaws.{below-flatMap}

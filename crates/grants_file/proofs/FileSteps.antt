@@ -12,9 +12,8 @@ use lib.Dec.{leb, ltb}
 use lib.ListN.{length, drop, length-drop}
 use lib.Seq.{length-take-le}
 use borrow.Author.Tests.{eq-eqb, ne-eqb, le-leb, lt-leb, lt-ltb, le-ltb}
-use Rattle.grants_file.specs.Block.{blockBytes}
-use Rattle.grants_file.specs.File.{blocksIn, blockAt}
-use Rattle.grants_file.specs.Verdict.{maxBlocks, wrongBlockCount}
+use Rattle.grants_file.specs.Layout.{blockBytes, maxBlocks}
+use Rattle.grants_file.specs.File.{blocksIn, blockAt, wrongBlockCount}
 
 pub length-blockAt : (f : List ℕ) (i : ℕ) → i < blocksIn f → length (blockAt f i) ≡ blockBytes
 length-blockAt f i h =

@@ -23,13 +23,14 @@ use Rattle.model.specs.declared.Fault.{Fault}
 use Rattle.model.specs.Answer.{accepted, refusal}
 use Rattle.model.specs.Refusal.{firstFault}
 use Rattle.model.proofs.AnswerLaws.{refusal-injective, refusal-accepted}
-use Rattle.grants_file.specs.Record.{recordBytes, decodeRecord}
-use Rattle.grants_file.specs.Block.{blockBytes, recordsPlace, recordsPerBlock, recordsOf}
+use Rattle.grants_file.specs.Layout.{recordBytes, blockBytes, recordsPlace, recordsPerBlock}
+use Rattle.grants_file.specs.Record.{decodeRecord}
+use Rattle.grants_file.specs.Block.{recordsOf}
 use Rattle.grants_file.specs.File.{countIn, blockAt, totalIn, grantsIn}
 use Rattle.grants_file.specs.Verdict.{fileCauses}
 use Rattle.grants_file.specs.Answers.{answerBy, fileAnswer}
 use Rattle.grants_file.specs.FileSets.{Accepted}
-use Rattle.grants_file.proofs.CauseLaws.{RightHeader, Whole, wrongHeader-iff, wrongBlockCount-iff, accepted-iff}
+use Rattle.grants_file.proofs.CauseLaws.{RightHeader, Whole, accepted-iff}
 use Rattle.grants_file.proofs.FileLaws.{grantsOf, length-grantsIn, chunk-grantsIn}
 use Rattle.grants_file.proofs.RecordSteps.{recordAt}
 
@@ -67,10 +68,10 @@ record-part f q r h =
 
 module _ (f : List ℕ) (a : Accepted f) where
   pub accepted-header : RightHeader f
-  accepted-header = wrongHeader-iff f .0 (accepted-iff f .0 a .header)
+  accepted-header = accepted-iff f .0 a .header
 
   pub accepted-whole : Whole f
-  accepted-whole = wrongBlockCount-iff f .0 (accepted-iff f .0 a .count)
+  accepted-whole = accepted-iff f .0 a .whole
 
   module _ (i : ℕ) (h : i < totalIn f) where
     pub record-inside : placeOf i + recordBytes ≤ length f

@@ -1,7 +1,7 @@
 -- An accepted file with exactly one byte changed is refused with 12 and that byte's block (document 01, "The grants file"; demand 2).
 --   wrongChecksum-set      one byte changed in a block of right check
 --   blockAt-set-same, blockAt-set-other     the byte's block, and a block before it
---   blockCauses-set        the causes of a block before it are as they were
+--   blockDefects-set       the defects of a block before it are as they were
 --   one-byte               the refusal
 -- Assumes nothing.
 use Prim.Native.Nat.{ℕ, zero, suc, _+_, _-_, _*_, _/_, _%_, _≤_, _<_}
@@ -9,7 +9,7 @@ use mathlib.Core.Logic.{_≢_}
 use mathlib.Core.Path.{_≡_, sym, ap, _∙_}
 use mathlib.Core.Bool.{true, false, not}
 use mathlib.Core.List.{List, _++_, flatMap}
-use mathlib.Core.Option.{none, some}
+use mathlib.Core.Option.{some}
 use native.Mathlib.Omega.{arith}
 use native.Mathlib.Decide.{decLt, ℕ-discrete}
 use native.Mathlib.Nat.{zero-add}
@@ -19,18 +19,20 @@ use lib.Seq.{getD-set-same, getD-set-other, getD-take, getD-drop, take-set-le, t
 use Rattle.lists.specs.Ranges.{countFrom}
 use Rattle.lists.proofs.ListLaws.{countFrom-append, countFrom-mem, flatMap-append}
 use Rattle.model.specs.declared.Fault.the-variants.{BadChecksum}
-use Rattle.model.specs.Refusal.{Cause, firstFault}
+use Rattle.model.specs.Refusal.{firstFault}
 use Rattle.model.specs.Values.{byteValues, Below}
-use Rattle.model.proofs.RefusalLaws.{firstFault-append, firstFault-flatMap}
 use Rattle.checksum.specs.Checksum.{checksum}
 use Rattle.checksum.proofs.ChecksumLaws.{checksum-set-changes}
+use Rattle.grants_file.specs.Layout.{blockBytes, checksumPlace, totalPlace, firstDoorPlace, lastDoorPlace, headerEnd}
 use Rattle.grants_file.specs.Bytes.{be16At}
-use Rattle.grants_file.specs.Block.{blockBytes, checksumPlace, wrongChecksum}
-use Rattle.grants_file.specs.File.{blocksIn, blockAt, doorsIn}
-use Rattle.grants_file.specs.Verdict.{wrongBlockCount, wrongHeader, wrongLayout, lastBefore, wrongRecordsIn, blockCauses, fileCauses}
+use Rattle.grants_file.specs.Block.{wrongChecksum}
+use Rattle.grants_file.specs.File.{blocksIn, blockAt, wrongBlockCount, doorsIn}
+use Rattle.grants_file.specs.Defects.{DefectCause, lastBefore, contentDefects, blockDefects, fileDefects}
+use Rattle.grants_file.specs.Verdict.{causesOf, fileCauses}
 use Rattle.grants_file.specs.FileSets.{Accepted}
 use Rattle.grants_file.proofs.BytesLaws.{getD-below, bytesAt-below}
-use Rattle.grants_file.proofs.CauseLaws.{wrongBlockCount-iff, Passes, accepted-iff, block-passes}
+use Rattle.grants_file.proofs.DefectLaws.{Clear, clear-front, clear-flatMap}
+use Rattle.grants_file.proofs.CauseLaws.{wrongBlockCount-iff, Passes, accepted-iff, accepted-block}
 use Rattle.grants_file.proofs.FileLaws.{length-blockAt}
 
 module _ (b : List ℕ) (i v : ℕ) (long : length b ≡ blockBytes) (below : Below byteValues b) (inside : i < blockBytes) (byte : v < byteValues) (other : v ≢ getD b i 0) where
@@ -107,44 +109,32 @@ module _ (f : List ℕ) (i v : ℕ) where
       let low = getD-set-other f i (at + 1) v 0 (omega arith) in
       cc
 
-  doorsIn-set : 11 < i → doorsIn (set f i v) ≡ doorsIn f
-  doorsIn-set h = λ k. record { from = be16At-set 8 (omega arith) k; to = be16At-set 10 (omega arith) k }
+  doorsIn-set : headerEnd ≤ i → doorsIn (set f i v) ≡ doorsIn f
+  doorsIn-set h = λ k. record { from = be16At-set firstDoorPlace (omega arith) k; to = be16At-set lastDoorPlace (omega arith) k }
 
-  header-set : blockBytes ≤ i → wrongHeader (set f i v) ≡ wrongHeader f
-  unfolding wrongHeader
-  header-set h =
-      let block = blockAt-set-other 0 (omega arith) in
-      let total = be16At-set 6 (omega arith) in
+  contents-set : (j : ℕ) → blockBytes * suc j ≤ i → contentDefects (set f i v) j ≡ contentDefects f j
+  unfolding contentDefects lastBefore
+  contents-set zero h =
+      let block = blockAt-set-other 0 h in
+      let total = be16At-set totalPlace (omega arith) in
       let doors = doorsIn-set (omega arith) in
       let size = length-set f i v in
       cc
-
-  layout-set : (j : ℕ) → blockBytes * suc j ≤ i → wrongLayout (set f i v) j ≡ wrongLayout f j
-  unfolding wrongLayout
-  layout-set j h =
-      let block = blockAt-set-other j h in
-      let total = be16At-set 6 (omega arith) in
-      cc
-
-  records-set : (j : ℕ) → blockBytes * suc j ≤ i → wrongRecordsIn (set f i v) j ≡ wrongRecordsIn f j
-  unfolding wrongRecordsIn lastBefore
-  records-set j h =
-      let block = blockAt-set-other j h in
-      let earlier = blockAt-set-other (j - 1) (omega arith) in
-      let total = be16At-set 6 (omega arith) in
+  contents-set (suc j) h =
+      let block = blockAt-set-other (suc j) h in
+      let earlier = blockAt-set-other (suc j - 1) (omega arith) in
+      let total = be16At-set totalPlace (omega arith) in
       let doors = doorsIn-set (omega arith) in
       cc
 
-  blockCauses-set : (j : ℕ) → blockBytes * suc j ≤ i → blockCauses (set f i v) j ≡ blockCauses f j
-  unfolding blockCauses
-  blockCauses-set zero h = rw (blockAt-set-other 0 h, header-set (omega arith))
-  blockCauses-set (suc j) h = rw (blockAt-set-other (suc j) h, layout-set (suc j) h, records-set (suc j) h)
+  blockDefects-set : (j : ℕ) → blockBytes * suc j ≤ i → blockDefects (set f i v) j ≡ blockDefects f j
+  blockDefects-set j h = rw (blockAt-set-other j h, contents-set j h)
 
 -- a block of wrong check is refused with 12 before its other causes
-bad-checksum : (f : List ℕ) (i : ℕ) (later : List Cause) → wrongChecksum (blockAt f i) ≡ true → firstFault (blockCauses f i ++ later) ≡ some (BadChecksum i)
-unfolding blockCauses firstFault
-bad-checksum f zero later e = rw e
-bad-checksum f (suc i) later e = rw e
+bad-checksum : (f : List ℕ) (i : ℕ) (later : List DefectCause) → wrongChecksum (blockAt f i) ≡ true
+    → firstFault (causesOf (blockDefects f i ++ later)) ≡ some (BadChecksum i)
+unfolding firstFault flatMap
+bad-checksum f i later e = rw e
 
 module _ (f : List ℕ) (i v : ℕ) (below : Below byteValues f) (taken : Accepted f) (inside : i < length f) (byte : v < byteValues) (other : v ≢ getD f i 0) where
   passes : Passes f
@@ -152,7 +142,7 @@ module _ (f : List ℕ) (i v : ℕ) (below : Below byteValues f) (taken : Accept
 
   -- the byte's block is in the file
   block-inside : i / blockBytes < blocksIn f
-  block-inside = omega (arith, wrongBlockCount-iff f .0 (passes .count) .whole)
+  block-inside = omega (arith, passes .whole .whole)
 
   -- the byte in its block
   getD-block : getD (blockAt f (i / blockBytes)) (i % blockBytes) 0 ≡ getD f i 0
@@ -166,28 +156,28 @@ module _ (f : List ℕ) (i v : ℕ) (below : Below byteValues f) (taken : Accept
       let b = blockAt f (i / blockBytes) in
       let bytes = bytesAt-below byteValues f (blockBytes * (i / blockBytes)) blockBytes below in
       let long = length-blockAt f (i / blockBytes) block-inside in
-      let right = passes .checksums (i / blockBytes) block-inside in
+      let right = passes .starts (i / blockBytes) block-inside .checksum in
       rw (blockAt-set-same f i v) (wrongChecksum-set b (i % blockBytes) v long bytes (omega arith) byte (λ e. other (e ∙ getD-block)) right)
 
   count-set : wrongBlockCount (set f i v) ≡ false
   unfolding wrongBlockCount
-  count-set = rw (length-set f i v) (passes .count)
+  count-set = rw (length-set f i v) (wrongBlockCount-iff f .1 (passes .whole))
 
-  earlier-absent : (j : ℕ) → j < i / blockBytes → firstFault (blockCauses (set f i v) j) ≡ none
-  earlier-absent j h = rw (blockCauses-set f i v j (omega arith)) (block-passes f passes j (omega (arith, block-inside)))
+  earlier-clear : (j : ℕ) → j < i / blockBytes → Clear (blockDefects (set f i v) j)
+  earlier-clear j h = rw (blockDefects-set f i v j (omega arith)) (accepted-block f taken j (omega (arith, block-inside)))
 
   pub one-byte : firstFault (fileCauses (set f i v)) ≡ some (BadChecksum (i / blockBytes))
-  unfolding fileCauses firstFault flatMap countFrom
+  unfolding fileCauses fileDefects firstFault flatMap countFrom
   one-byte =
       let at = i / blockBytes in
-      let causes = blockCauses (set f i v) in
+      let defects = blockDefects (set f i v) in
       let after = blocksIn f - suc at in
       let whole : blocksIn (set f i v) ≡ at + suc after = omega (arith, length-set f i v, block-inside) in
-      let none-before = firstFault-flatMap causes (countFrom 0 at) (λ j m. let before = countFrom-mem 0 at j m in earlier-absent j (omega arith)) in
+      let none-before = clear-flatMap defects (countFrom 0 at) .1 (λ j m. let before = countFrom-mem 0 at j m in earlier-clear j (omega arith)) in
       rw count-set
-      (ap (λ (n : ℕ). firstFault (flatMap causes (countFrom 0 n))) whole
-      ∙ ap (λ (l : List ℕ). firstFault (flatMap causes l)) (countFrom-append 0 at (suc after))
-      ∙ ap firstFault (flatMap-append causes (countFrom 0 at) (countFrom (0 + at) (suc after)))
-      ∙ firstFault-append (flatMap causes (countFrom 0 at)) (flatMap causes (countFrom (0 + at) (suc after))) none-before
-      ∙ ap (λ (k : ℕ). firstFault (flatMap causes (countFrom k (suc after)))) (zero-add at)
-      ∙ bad-checksum (set f i v) at (flatMap causes (countFrom (suc at) after)) checksum-wrong)
+      (ap (λ (n : ℕ). firstFault (causesOf (flatMap defects (countFrom 0 n)))) whole
+      ∙ ap (λ (l : List ℕ). firstFault (causesOf (flatMap defects l))) (countFrom-append 0 at (suc after))
+      ∙ ap (λ (cs : List DefectCause). firstFault (causesOf cs)) (flatMap-append defects (countFrom 0 at) (countFrom (0 + at) (suc after)))
+      ∙ clear-front (flatMap defects (countFrom 0 at)) (flatMap defects (countFrom (0 + at) (suc after))) none-before
+      ∙ ap (λ (k : ℕ). firstFault (causesOf (flatMap defects (countFrom k (suc after))))) (zero-add at)
+      ∙ bad-checksum (set f i v) at (flatMap defects (countFrom (suc at) after)) checksum-wrong)

@@ -1,5 +1,5 @@
 -- Block read on an accepted file, specs/BlockRead: every block passes alone, and its part is the records of its grants (demand 2).
---   wrongCount-passes, wrongAlone-passes, passes-read    no cause of block read holds in a block of a file that passes
+--   wrongCount-passes, passes-read                       no cause of block read holds in a block of a file that passes
 --   bytesAt-block                                        bytes of a block, and the same bytes of the file
 --   part-first, part-grants                              the part of block 0, and of another block
 --   part-refusal                                         a refused block's
@@ -19,17 +19,19 @@ use Rattle.lists.proofs.ListLaws.{drop-take}
 use Rattle.model.specs.declared.Fault.{Fault}
 use Rattle.model.specs.Refusal.{firstFault}
 use Rattle.model.specs.Values.{byteValues, Below}
+use Rattle.grants_file.specs.Layout.{recordBytes, blockBytes, recordsPlace, recordsPerBlock}
 use Rattle.grants_file.specs.Bytes.{bytesAt}
-use Rattle.grants_file.specs.Record.{recordBytes, encodeRecord}
-use Rattle.grants_file.specs.Block.{blockBytes, recordsPlace, recordsPerBlock, countOf, recordsOf}
+use Rattle.grants_file.specs.Record.{encodeRecord}
+use Rattle.grants_file.specs.Block.{countOf, recordsOf}
 use Rattle.grants_file.specs.File.{countIn, chunk, blocksIn, blockAt, totalIn, doorsIn, grantsIn}
-use Rattle.grants_file.specs.Verdict.{lastBefore, wrongRecordsIn}
-use Rattle.grants_file.specs.BlockRead.{notInFile, wrongCount, wrongAlone, readCauses, partOf}
+use Rattle.grants_file.specs.Defects.{startDefects, lastBefore}
+use Rattle.grants_file.specs.BlockRead.{notInFile, wrongCount, restDefects, readCauses, partOf}
 use Rattle.grants_file.proofs.BytesLaws.{bytesAt-below}
-use Rattle.grants_file.proofs.WrongRecordLaws.{wrongRecords-kinds}
+use Rattle.grants_file.proofs.DefectLaws.{Clear, clear-nil, clear-cons, clear-append}
+use Rattle.grants_file.proofs.RightRecordLaws.{right-kinds}
 use Rattle.grants_file.proofs.BlockLaws.{records-joined}
 use Rattle.grants_file.proofs.FileLaws.{grantsOf, chunk-grantsIn, length-blockAt}
-use Rattle.grants_file.proofs.CauseLaws.{RightHeader, wrongHeader-iff, RightLayout, wrongLayout-iff, Passes}
+use Rattle.grants_file.proofs.CauseLaws.{wrongBlockCount-iff, start-iff, Passes}
 
 bytesAt-block : (f : List ℕ) (i at n : ℕ) → at + n ≤ blockBytes → bytesAt f (blockBytes * i + at) n ≡ bytesAt (blockAt f i) at n
 bytesAt-block f i at n h =
@@ -39,12 +41,6 @@ bytesAt-block f i at n h =
     ∙ ap (take n) (sym (drop-take at blockBytes rest))
 
 module _ (f : List ℕ) (p : Passes f) where
-  header : RightHeader f
-  header = wrongHeader-iff f .0 (p .header)
-
-  layout : (i : ℕ) → suc i < blocksIn f → RightLayout f (suc i)
-  layout i h = wrongLayout-iff f (suc i) .0 (p .layouts i h)
-
   -- a full block but for the last, which holds one record at least
   wrongCount-passes : (i : ℕ) → suc i < blocksIn f → wrongCount f (suc i) ≡ false
   unfolding wrongCount
@@ -55,36 +51,38 @@ module _ (f : List ℕ) (p : Passes f) where
 
       go : Dec (suc (suc i) ≡ blocksIn f) → wrongCount f (suc i) ≡ false
       go (yes e) =
-          let some : 1 ≤ n = omega (arith, layout i h .count, header .blocks) in
-          let few : n ≤ recordsPerBlock = omega (arith, layout i h .count) in
+          let some : 1 ≤ n = omega (arith, p .layouts i h .count, p .header .blocks) in
+          let few : n ≤ recordsPerBlock = omega (arith, p .layouts i h .count) in
           rw (eq-eqb _ _ e, le-leb 1 n some, le-leb n recordsPerBlock few)
       go (no e) =
-          let full : n ≡ recordsPerBlock = omega (arith, layout i h .count, header .blocks) in
+          let full : n ≡ recordsPerBlock = omega (arith, p .layouts i h .count, p .header .blocks) in
           rw (ne-eqb _ _ e, full)
 
-  wrongAlone-passes : (i : ℕ) → i < blocksIn f → wrongAlone f i ≡ false
-  unfolding wrongAlone
-  wrongAlone-passes zero h = rw (header .start, header .fill)
-  wrongAlone-passes (suc i) h = rw (layout i h .start, wrongCount-passes i h, layout i h .fill)
+  rest-clear : (i : ℕ) → i < blocksIn f → Clear (restDefects f i)
+  unfolding restDefects
+  rest-clear zero h = clear-cons _ _ (p .header .fill) clear-nil
+  rest-clear (suc i) h = clear-cons _ _ (wrongCount-passes i h) (clear-cons _ _ (p .layouts i h .fill) clear-nil)
 
   pub passes-read : (i : ℕ) → i < blocksIn f → firstFault (readCauses f i) ≡ none
   unfolding readCauses notInFile firstFault
-  passes-read i h = rw (p .count, lt-leb (blocksIn f) i h, p .checksums i h, wrongAlone-passes i h)
+  passes-read i h =
+      rw (wrongBlockCount-iff f .1 (p .whole), lt-leb (blocksIn f) i h)
+      (clear-append (startDefects (blockAt f i) i) (restDefects f i) .1 (start-iff (blockAt f i) i .1 (p .starts i h), rest-clear i h))
 
   pub part-first : 0 < blocksIn f → partOf f 0 ≡ []
   unfolding partOf
   part-first h = rw (passes-read 0 h)
 
   pub part-grants : Below byteValues f → (i : ℕ) → suc i < blocksIn f → partOf f (suc i) ≡ flatMap encodeRecord (chunk (suc i) (grantsIn f))
-  unfolding partOf grantsOf wrongRecordsIn
+  unfolding partOf grantsOf
   part-grants below i h =
       let b = blockAt f (suc i) in
       let n = countIn (totalIn f) (suc i) in
-      let kinds = wrongRecords-kinds (doorsIn f) (lastBefore f (suc i)) (recordsOf b n) (p .records i h) in
-      rw (passes-read (suc i) h, layout i h .count)
+      let kinds = right-kinds (doorsIn f) (lastBefore f (suc i)) (recordsOf b n) (p .records i h) in
+      rw (passes-read (suc i) h, p .layouts i h .count)
       (bytesAt-block f (suc i) recordsPlace (recordBytes * n) (omega arith)
       ∙ records-joined b (length-blockAt f (suc i) h) (bytesAt-below byteValues f (blockBytes * suc i) blockBytes below) n (omega arith) kinds
-      ∙ ap (flatMap encodeRecord) (sym (chunk-grantsIn f i (omega (arith, header .blocks)))))
+      ∙ ap (flatMap encodeRecord) (sym (chunk-grantsIn f i (omega (arith, p .header .blocks)))))
 
 pub part-refusal : (f : List ℕ) (i : ℕ) → firstFault (readCauses f i) ≢ none → partOf f i ≡ []
 unfolding partOf

@@ -20,9 +20,10 @@ use Rattle.model.specs.declared.Grant.{Grant}
 use Rattle.model.specs.Kind.{kindNumber, kindOf}
 use Rattle.model.specs.Box.{boxValues}
 use Rattle.model.specs.Values.{wordValues, byteValues, Below, GrantFits}
+use Rattle.grants_file.specs.Layout.{recordBytes}
 use Rattle.grants_file.specs.Bytes.{be16, be16At}
+use Rattle.grants_file.specs.Record.{encodeRecord, decodeRecord, kindByte}
 use Rattle.grants_file.proofs.BytesLaws.{below-nil, below-cons, below-append, below-flatMap, getD-below, be16-below, be16-be16At, be16At-below}
-use Rattle.grants_file.specs.Record.{recordBytes, encodeRecord, decodeRecord, kindByte}
 
 kindOf-kindNumber : (k : Kind) → kindOf (kindNumber k) ≡ k
 kindOf-kindNumber Bars = refl

@@ -1,26 +1,20 @@
--- A record read and judged where it lies, as the code does it.
+-- A record read where it lies, as the code does it.
 --   part-byte, part-be16           a byte, or a number, of a part of a list
 --   number-at, kind-at, decode-at, bounds-at   the grant of the record at a place, field by field
---   record-low, record-kind, record-reversed, record-left   the tests of `wrongRecord`, one after the other
 -- Assumes nothing.
-use Prim.Native.Nat.{ℕ, _+_, _<_, _≤_}
+use Prim.Native.Nat.{ℕ, _+_, _<_}
 use mathlib.Core.Path.{_≡_, refl}
-use mathlib.Core.Bool.{true, false, not}
 use mathlib.Core.List.{List}
 use native.Mathlib.Nat.{add-zero}
 use native.Mathlib.Omega.{arith}
 use lib.ListN.{getD, drop}
 use lib.Seq.{getD-take, getD-drop}
-use borrow.Author.Tests.{le-leb, lt-leb, lt-ltb, le-ltb}
 use Rattle.model.specs.declared.Grant.{Grant}
 use Rattle.model.specs.declared.Box.{Box}
 use Rattle.model.specs.Kind.{kindOf}
-use Rattle.model.specs.Interval.{Interval}
-use Rattle.model.specs.Box.{doorsOf}
-use Rattle.model.specs.Overlap.{overlapOn}
-use Rattle.model.specs.Arguments.{reversedBox}
+use Rattle.grants_file.specs.Layout.{recordBytes}
 use Rattle.grants_file.specs.Bytes.{be16At, bytesAt}
-use Rattle.grants_file.specs.Record.{recordBytes, numberOf, kindByte, decodeRecord, wrongRecord}
+use Rattle.grants_file.specs.Record.{recordNumber, kindByte, decodeRecord}
 
 pub part-byte : (f : List ℕ) (at n j place : ℕ) → at + j ≡ place → j < n → getD (bytesAt f at n) j 0 ≡ getD f place 0
 part-byte f at n j place e h = rw (getD-take n (drop at f) j 0 h, getD-drop at f j 0, e)
@@ -34,7 +28,7 @@ abbrev pub recordAt : List ℕ → ℕ → List ℕ
 recordAt f at = bytesAt f at recordBytes
 
 module _ (f : List ℕ) (at : ℕ) where
-  pub number-at : numberOf (recordAt f at) ≡ be16At f at
+  pub number-at : recordNumber (recordAt f at) ≡ be16At f at
   number-at = part-be16 f at 16 0 at (add-zero at) (omega arith)
 
   pub kind-at : kindByte (recordAt f at) ≡ getD f (at + 3) 0
@@ -81,23 +75,3 @@ module _ (f : List ℕ) (at : ℕ) where
         kind = kindOf (kind-at i);
         bounds = decodeRecord (recordAt f at) .bounds;
       }
-
-module _ (doors : Interval) (last : ℕ) (f : List ℕ) (at : ℕ) where
-  pub record-low : be16At f at ≤ last → true ≡ wrongRecord doors last (recordAt f at)
-  unfolding wrongRecord
-  record-low h = rw (number-at f at, le-leb _ _ h)
-
-  module _ (number : last < be16At f at) where
-    pub record-kind : 1 < getD f (at + 3) 0 → true ≡ wrongRecord doors last (recordAt f at)
-    unfolding wrongRecord
-    record-kind h = rw (number-at f at, lt-leb _ _ number, kind-at f at, lt-ltb _ _ h)
-
-    module _ (kind : getD f (at + 3) 0 ≤ 1) where
-      pub record-reversed : true ≡ reversedBox (decodeRecord (recordAt f at) .bounds) → true ≡ wrongRecord doors last (recordAt f at)
-      unfolding wrongRecord
-      record-reversed h = rw (number-at f at, lt-leb _ _ number, kind-at f at, le-ltb _ _ kind, ← h)
-
-      pub record-left : false ≡ reversedBox (decodeRecord (recordAt f at) .bounds)
-          → not (overlapOn (doorsOf (decodeRecord (recordAt f at) .bounds)) doors) ≡ wrongRecord doors last (recordAt f at)
-      unfolding wrongRecord
-      record-left h = rw (number-at f at, lt-leb _ _ number, kind-at f at, le-ltb _ _ kind, ← h)

@@ -1,12 +1,11 @@
 -- Laws of specs/Verdict: the accepted files are those of a door range and a set of grants.
---   fileOf-accepted, verdict-fileOf  the file of a set is accepted, and gives its doors and that set
+--   fileOf-accepted                  the file of a set is accepted
 --   passes-written, passes-set       an accepted file is that of the doors and grants that it gives, and these are a file's set
 --   accepted-files                   both (demand 2)
 -- Assumes nothing.
 use Prim.Native.Nat.{ℕ, zero, suc, _+_, _*_, _≤_, _<_}
 use mathlib.Core.Logic.{_↔_}
-use mathlib.Core.Path.{_≡_, refl, sym, ap, ap₂, subst, _∙_}
-use mathlib.Core.Bool.{Bool, false, _||_}
+use mathlib.Core.Path.{_≡_, refl, sym, ap, ap₂, subst, transport, _∙_}
 use mathlib.Core.List.{List, map, flatMap, List·Memᴰ, Memᴰ·of-map}
 use native.Mathlib.Omega.{arith}
 use native.Mathlib.Numerals.{sub-one}
@@ -16,23 +15,38 @@ use lib.ListN.{length, take, drop, take-append-drop, drop-of-length-le, length-m
 use lib.Seq.{drop-drop, take-add}
 use Rattle.lists.specs.Ranges.{countFrom}
 use Rattle.lists.proofs.ListLaws.{countFrom-mem, flatMap-same, map-take, map-drop}
-use Rattle.lists.proofs.OrLaws.{chain-false, false-chain}
 use Rattle.model.specs.declared.Grant.{Grant}
 use Rattle.model.specs.Limits.{maxGrants}
 use Rattle.model.specs.Interval.{Interval}
 use Rattle.model.specs.Values.{byteValues, Below, GrantFits}
+use Rattle.grants_file.specs.Layout.{blockBytes, recordsPerBlock}
 use Rattle.grants_file.specs.Bytes.{be16At}
-use Rattle.grants_file.specs.Record.{encodeRecord, decodeRecord, wrongRecords}
-use Rattle.grants_file.specs.Block.{blockBytes, recordsPerBlock, headerBlock, recordBlock, countOf, recordsOf, wrongChecksum}
+use Rattle.grants_file.specs.Record.{encodeRecord, decodeRecord}
+use Rattle.grants_file.specs.Block.{headerBlock, recordBlock, countOf, recordsOf}
 use Rattle.grants_file.specs.File.{recordBlocks, blocksFor, countIn, chunk, fileOf, blocksIn, blockAt, totalIn, doorsIn, grantsIn}
-use Rattle.grants_file.specs.Verdict.{lastBefore, wrongRecordsIn, accepted, verdict}
+use Rattle.grants_file.specs.Defects.{lastBefore}
 use Rattle.grants_file.specs.FileSets.{Accepted, FileSet}
 use Rattle.grants_file.proofs.BytesLaws.{bytesAt-below, be16At-below, be16At-part}
 use Rattle.grants_file.proofs.RecordLaws.{decodeRecord-fits}
-use Rattle.grants_file.proofs.WrongRecordLaws.{lastNumber, lastNumber-append, RightGrant, wrongRecords-append, wrongRecords-kinds, wrongRecords-encode}
-use Rattle.grants_file.proofs.BlockLaws.{wrongChecksum-headerBlock, wrongStart-headerBlock, wrongPadding-headerBlock, wrongChecksum-recordBlock, wrongStart-recordBlock, countOf-recordBlock, wrongPadding-recordBlock, recordsOf-mem, headerBlock-take, recordBlock-take}
-use Rattle.grants_file.proofs.FileLaws.{blockOf, grantsOf, length-chunk, fileOf-blocks, length-fileOf, blockAt-fileOf, totalIn-fileOf, doorsIn-fileOf, recordsOf-fileOf, grantsIn-fileOf, length-grantsIn, chunk-grantsIn, grantsIn-mem, length-blockAt, blocks-joined}
-use Rattle.grants_file.proofs.CauseLaws.{Whole, wrongBlockCount-iff, RightHeader, wrongHeader-iff, RightLayout, wrongLayout-iff, Passes, accepted-iff}
+use Rattle.grants_file.proofs.RightRecordLaws.{RightRecords, lastNumber, lastNumber-append, RightGrant, right-append, right-kinds, right-encode}
+use Rattle.grants_file.proofs.BlockLaws.{wrongChecksum-headerBlock, hasMagic-headerBlock, number-headerBlock, wrongPadding-headerBlock, wrongChecksum-recordBlock, hasMagic-recordBlock}
+use Rattle.grants_file.proofs.BlockLaws.{number-recordBlock, countOf-recordBlock, wrongPadding-recordBlock, recordsOf-mem, headerBlock-take, recordBlock-take}
+use Rattle.grants_file.proofs.FileLaws.{blockOf, grantsOf, length-chunk, fileOf-blocks, length-fileOf, blockAt-fileOf, totalIn-fileOf, doorsIn-fileOf}
+use Rattle.grants_file.proofs.FileLaws.{recordsOf-fileOf, grantsIn-fileOf, length-grantsIn, chunk-grantsIn, grantsIn-mem, length-blockAt, blocks-joined}
+use Rattle.grants_file.proofs.CauseLaws.{Whole, RightStart, RightHeader, RightLayout, RightRecordsIn, Passes, accepted-iff}
+
+-- properties in a chain, each with those after it
+module _ (From Here : ℕ → Type 0) (step : (k : ℕ) → From k ↔ (Here k × From (suc k))) where
+  from-start : From 0 → (k : ℕ) → From k
+  from-start h zero = h
+  from-start h (suc k) = step k .0 (from-start h k) .1
+
+  chain-here : (n : ℕ) → From 0 → Here n
+  chain-here n h = step n .0 (from-start h n) .0
+
+  here-chain : (n : ℕ) → ((k : ℕ) → k < n → Here k) → From n → From 0
+  here-chain zero h last = last
+  here-chain (suc n) h last = here-chain n (λ k l. h k (omega arith)) (step n .1 (h n (omega arith), last))
 
 -- the last record of a full block, where another block follows
 lastBefore-full : (f : List ℕ) (i last : ℕ) → lastBefore f (suc (suc i)) ≡ lastNumber last (recordsOf (blockAt f (suc i)) recordsPerBlock)
@@ -54,30 +68,42 @@ module _ (doors : Interval) (gs : List Grant) where
   written-header : length gs ≤ maxGrants → doors .from ≤ doors .to → RightHeader (fileOf doors gs)
   unfolding blockOf
   written-header few order =
-      let first = blockAt-fileOf doors gs 0 (omega arith) in
       record {
-        start = rw first (wrongStart-headerBlock (length gs) doors);
         few = rw (totalIn-fileOf doors gs) few;
         blocks = rw (totalIn-fileOf doors gs) blocksIn-fileOf;
         order = subst (λ (d : Interval). d .from ≤ d .to) (sym (doorsIn-fileOf doors gs)) order;
-        fill = rw first (wrongPadding-headerBlock (length gs) doors);
+        fill = rw (blockAt-fileOf doors gs 0 (omega arith)) (wrongPadding-headerBlock (length gs) doors);
       }
+
+  few-here : (i : ℕ) → length (chunk (suc i) gs) ≤ recordsPerBlock
+  few-here i = omega (arith, length-chunk (suc i) gs)
 
   written-layout : (i : ℕ) → i < recordBlocks (length gs) → RightLayout (fileOf doors gs) (suc i)
   unfolding blockOf
   written-layout i h =
-      let few : length (chunk (suc i) gs) ≤ recordsPerBlock = omega (arith, length-chunk (suc i) gs) in
       let here = blockAt-fileOf doors gs (suc i) (omega arith) in
       record {
-        start = rw here (wrongStart-recordBlock (suc i) (chunk (suc i) gs) few);
-        count = rw (here, totalIn-fileOf doors gs) (countOf-recordBlock (suc i) (chunk (suc i) gs) few ∙ length-chunk (suc i) gs);
-        fill = rw here (wrongPadding-recordBlock (suc i) (chunk (suc i) gs) few);
+        count = rw (here, totalIn-fileOf doors gs) (countOf-recordBlock (suc i) (chunk (suc i) gs) (few-here i) ∙ length-chunk (suc i) gs);
+        fill = rw here (wrongPadding-recordBlock (suc i) (chunk (suc i) gs) (few-here i));
       }
 
-  written-checksum : (i : ℕ) → i < blocksFor (length gs) → wrongChecksum (blockAt (fileOf doors gs) i) ≡ false
+  block-start : (i : ℕ) → RightStart (blockOf doors gs i) i
   unfolding blockOf
-  written-checksum zero h = rw (blockAt-fileOf doors gs 0 h) (wrongChecksum-headerBlock (length gs) doors)
-  written-checksum (suc i) h = rw (blockAt-fileOf doors gs (suc i) h) (wrongChecksum-recordBlock (suc i) (chunk (suc i) gs) (omega (arith, length-chunk (suc i) gs)))
+  block-start zero =
+      record {
+        checksum = wrongChecksum-headerBlock (length gs) doors;
+        mark = hasMagic-headerBlock (length gs) doors;
+        number = number-headerBlock (length gs) doors;
+      }
+  block-start (suc i) =
+      record {
+        checksum = wrongChecksum-recordBlock (suc i) (chunk (suc i) gs) (few-here i);
+        mark = hasMagic-recordBlock (suc i) (chunk (suc i) gs) (few-here i);
+        number = number-recordBlock (suc i) (chunk (suc i) gs) (few-here i);
+      }
+
+  written-start : (i : ℕ) → i < blocksFor (length gs) → RightStart (blockAt (fileOf doors gs) i) i
+  written-start i h = subst (λ (b : List ℕ). RightStart b i) (sym (blockAt-fileOf doors gs i h)) (block-start i)
 
   -- the file's records
   abbrev records : List (List ℕ)
@@ -87,25 +113,28 @@ module _ (doors : Interval) (gs : List Grant) where
   before : ℕ → ℕ
   before k = lastNumber 0 (take (recordsPerBlock * k) records)
 
-  -- one from that block on is wrong, and one of that block
-  wrongFrom : ℕ → Bool
-  wrongFrom k = wrongRecords doors (before k) (drop (recordsPerBlock * k) records)
+  -- those from that block on are right, and those of that block
+  abbrev RightFrom : ℕ → Type 0
+  RightFrom k = RightRecords doors (before k) (drop (recordsPerBlock * k) records)
 
-  wrongHere : ℕ → Bool
-  wrongHere k = wrongRecords doors (before k) (take recordsPerBlock (drop (recordsPerBlock * k) records))
+  abbrev RightHere : ℕ → Type 0
+  RightHere k = RightRecords doors (before k) (take recordsPerBlock (drop (recordsPerBlock * k) records))
 
   before-suc : (k : ℕ) → before (suc k) ≡ lastNumber (before k) (take recordsPerBlock (drop (recordsPerBlock * k) records))
   unfolding before
   before-suc k =
       rw (mul-suc, take-add) (lastNumber-append 0 (take (recordsPerBlock * k) records) (take recordsPerBlock (drop (recordsPerBlock * k) records)))
 
-  wrongFrom-suc : (k : ℕ) → wrongFrom k ≡ (wrongHere k || wrongFrom (suc k))
-  unfolding wrongFrom wrongHere
-  wrongFrom-suc k =
+  from-suc : (k : ℕ) → RightFrom k ↔ (RightHere k × RightFrom (suc k))
+  from-suc k =
       let rest = drop (recordsPerBlock * k) records in
-      ap (wrongRecords doors (before k)) (sym (take-append-drop recordsPerBlock rest))
-      ∙ wrongRecords-append doors (before k) (take recordsPerBlock rest) (drop recordsPerBlock rest)
-      ∙ rw (before-suc k, mul-suc, ← drop-drop)
+      let here = take recordsPerBlock rest in
+      let later : RightRecords doors (lastNumber (before k) here) (drop recordsPerBlock rest) ≡ RightFrom (suc k) = rw (before-suc k, mul-suc, ← drop-drop) in
+      let both = right-append doors (before k) here (drop recordsPerBlock rest) in
+      let joined = take-append-drop recordsPerBlock rest in (
+        (λ h. let parts = both .0 (rw joined h) in (parts .0, transport later (parts .1))),
+        (λ h. rw joined at (both .1 (h .0, transport (sym later) (h .1)))),
+      )
 
   recordsOf-here : (k : ℕ) → k < recordBlocks (length gs)
       → recordsOf (blockAt (fileOf doors gs) (suc k)) (countIn (totalIn (fileOf doors gs)) (suc k)) ≡ take recordsPerBlock (drop (recordsPerBlock * k) records)
@@ -121,46 +150,38 @@ module _ (doors : Interval) (gs : List Grant) where
       ∙ ap (lastNumber (before k)) (ap (recordsOf b) full ∙ recordsOf-here k (omega arith))
       ∙ sym (before-suc k)
 
-  wrongRecordsIn-fileOf : (k : ℕ) → k < recordBlocks (length gs) → wrongRecordsIn (fileOf doors gs) (suc k) ≡ wrongHere k
-  unfolding wrongRecordsIn wrongHere
-  wrongRecordsIn-fileOf k h = rw (doorsIn-fileOf doors gs, lastBefore-fileOf k h, recordsOf-here k h)
+  records-here : (k : ℕ) → k < recordBlocks (length gs) → RightRecordsIn (fileOf doors gs) (suc k) ≡ RightHere k
+  records-here k h = rw (doorsIn-fileOf doors gs, lastBefore-fileOf k h, recordsOf-here k h)
 
-  wrongFrom-end : wrongFrom (recordBlocks (length gs)) ≡ false
-  unfolding wrongFrom wrongRecords
-  wrongFrom-end = rw (drop-of-length-le records {i = recordsPerBlock * recordBlocks (length gs)} (omega (arith, length-map gs encodeRecord)))
+  from-end : RightFrom (recordBlocks (length gs))
+  unfolding RightRecords
+  from-end = rw (drop-of-length-le records {i = recordsPerBlock * recordBlocks (length gs)} (omega (arith, length-map gs encodeRecord))) tt
 
-  -- no block's records are wrong exactly if the file's are not
-  records-iff : ((k : ℕ) → k < recordBlocks (length gs) → wrongRecordsIn (fileOf doors gs) (suc k) ≡ false) ↔ (wrongRecords doors 0 records ≡ false)
-  unfolding wrongFrom before lastNumber
-  records-iff = (
-    (λ h. false-chain wrongFrom wrongHere wrongFrom-suc (recordBlocks (length gs)) (λ k l. sym (wrongRecordsIn-fileOf k l) ∙ h k l) wrongFrom-end),
-    (λ e k l. wrongRecordsIn-fileOf k l ∙ chain-false wrongFrom wrongHere wrongFrom-suc k e),
+  -- each block's records are right exactly if the file's are
+  blocks-iff : ((k : ℕ) → k < recordBlocks (length gs) → RightRecordsIn (fileOf doors gs) (suc k)) ↔ RightRecords doors 0 records
+  unfolding before lastNumber
+  blocks-iff = (
+    (λ h. here-chain RightFrom RightHere from-suc (recordBlocks (length gs)) (λ k l. transport (records-here k l) (h k l)) from-end),
+    (λ h k l. transport (sym (records-here k l)) (chain-here RightFrom RightHere from-suc k h)),
   )
 
-  written-passes : length gs ≤ maxGrants → doors .from ≤ doors .to → wrongRecords doors 0 records ≡ false → Passes (fileOf doors gs)
+  written-passes : length gs ≤ maxGrants → doors .from ≤ doors .to → RightRecords doors 0 records → Passes (fileOf doors gs)
   written-passes few order right =
       record {
-        count = wrongBlockCount-iff (fileOf doors gs) .1 (written-whole few);
-        header = wrongHeader-iff (fileOf doors gs) .1 (written-header few order);
-        checksums = λ i h. written-checksum i (omega (arith, blocksIn-fileOf));
-        layouts = λ i h. wrongLayout-iff (fileOf doors gs) (suc i) .1 (written-layout i (omega (arith, blocksIn-fileOf)));
-        records = λ i h. records-iff .1 right i (omega (arith, blocksIn-fileOf));
+        whole = written-whole few;
+        starts = λ i h. written-start i (omega (arith, blocksIn-fileOf));
+        header = written-header few order;
+        layouts = λ i h. written-layout i (omega (arith, blocksIn-fileOf));
+        records = λ i h. blocks-iff .1 right i (omega (arith, blocksIn-fileOf));
       }
 
 pub fileOf-accepted : (doors : Interval) (gs : List Grant) → FileSet doors gs → Accepted (fileOf doors gs)
 fileOf-accepted doors gs s =
     let each : (g : Grant) → List·Memᴰ g gs → RightGrant doors g = λ g m. record { order = s .each g m .order; touching = s .each g m .touching } in
-    let right = wrongRecords-encode doors 0 gs .1 (s .ascending, each) in
+    let right = right-encode doors 0 gs .1 (s .ascending, each) in
     accepted-iff (fileOf doors gs) .1 (written-passes doors gs (s .few) (s .doors .order) right)
 
-pub verdict-fileOf : (doors : Interval) (gs : List Grant) → FileSet doors gs → verdict (fileOf doors gs) ≡ accepted doors gs
-unfolding verdict
-verdict-fileOf doors gs s = rw (fileOf-accepted doors gs s) (ap₂ accepted (doorsIn-fileOf doors gs) (grantsIn-fileOf doors gs))
-
 module _ (f : List ℕ) (below : Below byteValues f) (p : Passes f) where
-  header : RightHeader f
-  header = wrongHeader-iff f .0 (p .header)
-
   block-below : (i : ℕ) → Below byteValues (blockAt f i)
   block-below i = bytesAt-below byteValues f (blockBytes * i) blockBytes below
 
@@ -169,31 +190,34 @@ module _ (f : List ℕ) (below : Below byteValues f) (p : Passes f) where
   first-number at h = be16At-part f 0 blockBytes at h ∙ rw zero-add
 
   block-same : (i : ℕ) → i < blocksIn f → blockAt f i ≡ blockOf (doorsIn f) (grantsIn f) i
-  unfolding blockOf grantsOf wrongRecordsIn
+  unfolding blockOf grantsOf
   block-same zero h =
-      headerBlock-take (blockAt f 0) (length-blockAt f 0 h) (block-below 0) (p .checksums 0 h) (header .start) (header .fill)
+      headerBlock-take (blockAt f 0) (length-blockAt f 0 h) (block-below 0) (p .starts 0 h .checksum) (p .starts 0 h .mark) (p .starts 0 h .number)
+      (p .header .fill)
       ∙ ap₂ headerBlock
       (first-number 6 (omega arith) ∙ sym (length-grantsIn f))
       (λ i. record { from = first-number 8 (omega arith) i; to = first-number 10 (omega arith) i })
   block-same (suc i) h =
       let b = blockAt f (suc i) in
-      let layout = wrongLayout-iff f (suc i) .0 (p .layouts i h) in
-      let kinds = wrongRecords-kinds (doorsIn f) (lastBefore f (suc i)) (recordsOf b (countIn (totalIn f) (suc i))) (p .records i h) in
+      let layout = p .layouts i h in
+      let start = p .starts (suc i) h in
+      let kinds = right-kinds (doorsIn f) (lastBefore f (suc i)) (recordsOf b (countIn (totalIn f) (suc i))) (p .records i h) in
       let same = ap (recordsOf b) (layout .count) in
       let few : countOf b ≤ recordsPerBlock = omega (arith, layout .count) in
       recordBlock-take b (length-blockAt f (suc i) h) (block-below (suc i)) (suc i)
       few
-      (p .checksums (suc i) h)
-      (layout .start)
+      (start .checksum)
+      (start .mark)
+      (start .number)
       (layout .fill)
       (λ r m. kinds r (rw same at m))
       ∙ ap (λ (rs : List (List ℕ)). recordBlock (suc i) (map decodeRecord rs)) same
-      ∙ ap (recordBlock (suc i)) (sym (chunk-grantsIn f i (omega (arith, header .blocks))))
+      ∙ ap (recordBlock (suc i)) (sym (chunk-grantsIn f i (omega (arith, p .header .blocks))))
 
   pub passes-written : f ≡ fileOf (doorsIn f) (grantsIn f)
   passes-written =
-      let blocks : blocksIn f ≡ blocksFor (length (grantsIn f)) = header .blocks ∙ ap blocksFor (sym (length-grantsIn f)) in
-      sym (blocks-joined f (blocksIn f) (wrongBlockCount-iff f .0 (p .count) .whole))
+      let blocks : blocksIn f ≡ blocksFor (length (grantsIn f)) = p .header .blocks ∙ ap blocksFor (sym (length-grantsIn f)) in
+      sym (blocks-joined f (blocksIn f) (p .whole .whole))
       ∙ flatMap-same _ _ (countFrom 0 (blocksIn f)) (λ i m. let inside = countFrom-mem 0 (blocksIn f) i m in block-same i (omega arith))
       ∙ ap (λ (n : ℕ). flatMap (blockOf (doorsIn f) (grantsIn f)) (countFrom 0 n)) blocks
       ∙ sym (fileOf-blocks (doorsIn f) (grantsIn f))
@@ -204,18 +228,18 @@ module _ (f : List ℕ) (below : Below byteValues f) (p : Passes f) where
       let place = grantsIn-mem f g m in
       let b = blockAt f (suc (place .0)) in
       let r = Memᴰ·of-map decodeRecord (recordsOf b (countIn (totalIn f) (suc (place .0)))) (place .2) in
-      let long = length-blockAt f (suc (place .0)) (omega (arith, place .1, header .blocks)) in
+      let long = length-blockAt f (suc (place .0)) (omega (arith, place .1, p .header .blocks)) in
       let known = recordsOf-mem b long (block-below (suc (place .0))) (countIn (totalIn f) (suc (place .0))) (omega arith) (r .0) (r .1) in
       subst GrantFits (r .2) (decodeRecord-fits (r .0) (known .1))
 
   pub passes-set : FileSet (doorsIn f) (grantsIn f)
   passes-set =
       let written = subst Passes passes-written p in
-      let right = records-iff (doorsIn f) (grantsIn f) .0 (λ k h. written .records k (omega (arith, blocksIn-fileOf (doorsIn f) (grantsIn f)))) in
-      let set = wrongRecords-encode (doorsIn f) 0 (grantsIn f) .0 right in
+      let right = blocks-iff (doorsIn f) (grantsIn f) .0 (λ k h. written .records k (omega (arith, blocksIn-fileOf (doorsIn f) (grantsIn f)))) in
+      let set = right-encode (doorsIn f) 0 (grantsIn f) .0 right in
       record {
-        doors = record { order = header .order; fits = be16At-below f 10 below };
-        few = omega (arith, length-grantsIn f, header .few);
+        doors = record { order = p .header .order; fits = be16At-below f 10 below };
+        few = omega (arith, length-grantsIn f, p .header .few);
         ascending = set .0;
         each = λ g m. record { fits = grants-fit g m; order = set .1 g m .order; touching = set .1 g m .touching };
       }

@@ -20,9 +20,10 @@ use Rattle.lists.proofs.ListLaws.{length-flatMap}
 use Rattle.model.specs.declared.Grant.{Grant}
 use Rattle.model.specs.Interval.{Interval}
 use Rattle.checksum.specs.Checksum.{checksum}
+use Rattle.grants_file.specs.Layout.{recordBytes, blockBytes, checksumPlace, recordsPlace, recordsPerBlock, headerEnd, magic}
 use Rattle.grants_file.specs.Bytes.{be16}
-use Rattle.grants_file.specs.Record.{recordBytes, encodeRecord}
-use Rattle.grants_file.specs.Block.{blockBytes, checksumPlace, recordsPlace, recordsPerBlock, headerEnd, magic, sealed, headerBlock, recordBlock}
+use Rattle.grants_file.specs.Record.{encodeRecord}
+use Rattle.grants_file.specs.Block.{sealed, headerBlock, recordBlock}
 use Rattle.grants_file.proofs.RecordLaws.{length-encodeRecord}
 
 pub sets-append : (l : List ℕ) (i : ℕ) (xs ys : List ℕ) (j : ℕ) → i + length xs ≡ j → sets (sets l i xs) j ys ≡ sets l i (xs ++ ys)

@@ -1,11 +1,12 @@
 -- The answers of the calls on a file alone (document 01, "The grants file" and "Faults"), and of each of its blocks.
+--   outcomeBy o          done, or refused with the fault
 --   readAnswer f i       block read's verdict on block i
---   recordsPart f i      the bytes of block i's records, as many as it counts
 --   fileAnswer f         the verdict on a whole file
---   blockAnswer f i      the answer of block i in that verdict: its first fault, or the number that the next block's records must be above
---   outcomeOf a          what the verdict makes of a block's answer
+--   blockAnswer f i      the answer of block i in that verdict: its first defect, or the number that the next block's records must be above
+--   refusedDefect a      what is wrong by a block's answer
 -- Assumes nothing: these are definitions.
-use Prim.Native.Nat.{ℕ, suc, _+_, _*_}
+use Prim.Native.Nat.{ℕ, suc}
+use mathlib.Core.Bool.{cond}
 use mathlib.Core.List.{List, []}
 use mathlib.Core.Option.{Option, none, some}
 use Rattle.model.specs.declared.Fault.{Fault}
@@ -13,14 +14,17 @@ use Rattle.model.specs.declared.Outcome.{Outcome}
 use Rattle.model.specs.declared.Outcome.the-variants as outcome
 use Rattle.model.specs.Answer.{Answer, accepted, refusal}
 use Rattle.model.specs.Refusal.{firstFault}
+use Rattle.grants_file.specs.declared.Defect.{Defect}
+use Rattle.grants_file.specs.declared.Defect.the-variants as defect
 use Rattle.grants_file.specs.declared.BlockAnswer.{BlockAnswer}
 use Rattle.grants_file.specs.declared.BlockAnswer.the-variants.{Sound, Wrong}
-use Rattle.grants_file.specs.Bytes.{bytesAt}
-use Rattle.grants_file.specs.Record.{recordBytes}
-use Rattle.grants_file.specs.Block.{blockBytes, recordsPlace, countOf}
-use Rattle.grants_file.specs.File.{blockAt}
-use Rattle.grants_file.specs.Verdict.{lastBefore, blockCauses, fileCauses}
+use Rattle.grants_file.specs.Defects.{lastBefore, blockDefects, firstDefect, isWrong}
+use Rattle.grants_file.specs.Verdict.{fileCauses}
 use Rattle.grants_file.specs.BlockRead.{readCauses}
+
+abbrev pub outcomeBy : Option Fault → Outcome
+outcomeBy none = outcome.Done
+outcomeBy (some fault) = outcome.Refused fault
 
 -- accepted, or the first fault's refusal
 abbrev pub answerBy : Option Fault → Answer
@@ -30,19 +34,15 @@ answerBy (some fault) = refusal fault
 unfoldable pub readAnswer : List ℕ → ℕ → Answer
 readAnswer f i = answerBy (firstFault (readCauses f i))
 
-abbrev pub recordsPart : List ℕ → ℕ → List ℕ
-recordsPart f i = bytesAt f (blockBytes * i + recordsPlace) (recordBytes * countOf (blockAt f i))
-
 unfoldable pub fileAnswer : List ℕ → Answer
 fileAnswer f = answerBy (firstFault (fileCauses f))
 
-abbrev pub blockAnswerBy : ℕ → Option Fault → BlockAnswer
-blockAnswerBy last none = Sound last
-blockAnswerBy last (some fault) = Wrong fault
+abbrev pub blockAnswerBy : ℕ → Defect → BlockAnswer
+blockAnswerBy last x = cond (isWrong x) (Wrong x) (Sound last)
 
 unfoldable pub blockAnswer : List ℕ → ℕ → BlockAnswer
-blockAnswer f i = blockAnswerBy (lastBefore f (suc i)) (firstFault (blockCauses f i))
+blockAnswer f i = blockAnswerBy (lastBefore f (suc i)) (firstDefect (blockDefects f i))
 
-abbrev pub outcomeOf : BlockAnswer → Outcome
-outcomeOf (Sound last) = outcome.Done
-outcomeOf (Wrong fault) = outcome.Refused fault
+abbrev pub refusedDefect : BlockAnswer → Defect
+refusedDefect (Sound last) = defect.Sound
+refusedDefect (Wrong x) = x

@@ -3,22 +3,27 @@
 ghost use mathlib.Core.Path.{_≡_};
 ghost use Prim.Native.Nat.{_<_, _≤_};
 ghost use Rattle.model.specs.Answer.{outcomeAnswer};
+ghost use Rattle.grants_file.specs.Layout.{recordsPerBlock};
+ghost use Rattle.grants_file.specs.Block.{countOf};
 ghost use Rattle.grants_file.specs.File.{blocksIn, blockAt};
-ghost use Rattle.grants_file.specs.Block.{recordsPerBlock, countOf};
-ghost use Rattle.grants_file.specs.BlockRead.{notInFile, wrongCount, wrongAlone, partOf};
-ghost use Rattle.grants_file.specs.Answers.{readAnswer, recordsPart};
-use crate::block::BLOCK_BYTES;
-use crate::block::HEADER_END;
-use crate::block::RECORDS_PER_BLOCK;
-use crate::block::RECORDS_PLACE;
+ghost use Rattle.grants_file.specs.Defects.{firstDefect};
+ghost use Rattle.grants_file.specs.BlockRead.{notInFile, wrongCount, readDefects, recordsPart, partOf};
+ghost use Rattle.grants_file.specs.Answers.{readAnswer};
+use crate::Defect;
 use crate::block::count_of;
-use crate::block::wrong_checksum;
-use crate::block::wrong_padding;
-use crate::block::wrong_start;
+use crate::block_defects::layout_defect;
+use crate::block_defects::padding_defect;
+use crate::block_defects::start_defect;
+use crate::defects::is_wrong;
+use crate::defects::outcome_of;
 use crate::file::block_at;
 use crate::file::blocks_in;
 use crate::file::wrong_block_count;
-use crate::record::RECORD_BYTES;
+use crate::layout::BLOCK_BYTES;
+use crate::layout::HEADER_END;
+use crate::layout::RECORD_BYTES;
+use crate::layout::RECORDS_PER_BLOCK;
+use crate::layout::RECORDS_PLACE;
 use model::Fault;
 use model::Outcome;
 
@@ -47,23 +52,20 @@ fn wrong_count(file: &[u8], block: usize) -> bool
     RECORDS_PER_BLOCK < count
 }
 
-// Fault 11's causes that block read tests: mark, number and fill, and in a block of records their count.
-fn wrong_alone(file: &[u8], number: usize) -> bool
+// What is wrong in a block alone: nothing of its records, n or doors is tested.
+fn read_defect(file: &[u8], number: usize) -> Defect
     requires { ⌜ number < blocksIn (now file) ⌝ }
-    ensures { λ r. ⌜ r ≡ wrongAlone (now (file .entry)) number ⌝ }
+    ensures { λ r. ⌜ r ≡ firstDefect (readDefects (now (file .entry)) number) ⌝ }
 {
     let block = block_at(file, number);
-    if wrong_start(block, number) {
-        return true;
+    let start = start_defect(block, number);
+    if is_wrong(start) {
+        return start;
     }
     if number == 0 {
-        return wrong_padding(block, HEADER_END);
+        return padding_defect(block, number, HEADER_END);
     }
-    if wrong_count(file, number) {
-        return true;
-    }
-    let count = count_of(block);
-    wrong_padding(block, RECORDS_PLACE + RECORD_BYTES * count)
+    layout_defect(block, number, wrong_count(file, number))
 }
 
 // The verdict on a block: 10, 12, 11 or accepted.
@@ -73,14 +75,7 @@ pub fn block_verdict(file: &[u8], block: u64) -> Outcome
     if not_in_file(file, block) {
         return Outcome::Refused(Fault::BadLength);
     }
-    let number = block as usize;
-    if wrong_checksum(block_at(file, number)) {
-        return Outcome::Refused(Fault::BadChecksum { block: number });
-    }
-    if wrong_alone(file, number) {
-        return Outcome::Refused(Fault::BadLayout { block: number });
-    }
-    Outcome::Done
+    outcome_of(read_defect(file, block as usize))
 }
 
 // The part of the file that a block's records occupy.

@@ -19,6 +19,14 @@ pub fn be16_at(bytes: &[u8], at: usize) -> u16
     wide(bytes[at]) * 256 + wide(bytes[at + 1])
 }
 
+// The number at a place, as a count.
+pub fn count_at(bytes: &[u8], at: usize) -> usize
+    requires { ⌜ at + 2 ≤ length (now bytes) ⌝ }
+    ensures { λ r. ⌜ (r ≡ be16At (now (bytes .entry)) at) × (r < 65536) ⌝ }
+{
+    be16_at(bytes, at) as usize
+}
+
 // A number's high byte.
 pub fn high(n: u16) -> u8
     ensures { λ r. ⌜ r ≡ n / 256 ⌝ }

@@ -1,16 +1,12 @@
 // The blocks of a file (document 01, "The grants file"), of any bytes.
 ghost use mathlib.Core.Path.{_≡_};
-ghost use Prim.Native.Nat.{_<_};
+ghost use Prim.Native.Nat.{_<_, _≤_};
 ghost use lib.ListN.{length};
-ghost use Rattle.grants_file.specs.Block.{blockBytes};
-ghost use Rattle.grants_file.specs.File.{blocksIn, blockAt};
-ghost use Rattle.grants_file.specs.Verdict.{wrongBlockCount};
-use crate::block::BLOCK_BYTES;
-
-pub const MAX_BLOCKS: usize = 68;
-
-// The bytes of the longest file.
-pub const MAX_BYTES: usize = BLOCK_BYTES * MAX_BLOCKS;
+ghost use Rattle.grants_file.specs.Layout.{blockBytes, maxBlocks, recordsPerBlock};
+ghost use Rattle.grants_file.specs.File.{blocksFor, countIn, blocksIn, blockAt, wrongBlockCount};
+use crate::layout::BLOCK_BYTES;
+use crate::layout::MAX_BLOCKS;
+use crate::layout::RECORDS_PER_BLOCK;
 
 // The whole blocks that a file's length holds.
 pub fn blocks_in(file: &[u8]) -> usize
@@ -41,4 +37,29 @@ pub fn wrong_block_count(file: &[u8]) -> bool
         return true;
     }
     MAX_BLOCKS < blocks
+}
+
+// The blocks of a file of so many grants.
+pub fn blocks_for(total: usize) -> usize
+    requires { ⌜ total < 65536 ⌝ }
+    ensures { λ r. ⌜ r ≡ blocksFor total ⌝ }
+{
+    1 + (total + (RECORDS_PER_BLOCK - 1)) / RECORDS_PER_BLOCK
+}
+
+// The records that a block holds, of the file's total.
+pub fn count_in(total: usize, block: usize) -> usize
+    requires { ⌜ (0 < block) × (block ≤ maxBlocks) ⌝ }
+    ensures { λ r. ⌜ (r ≡ countIn total block) × (r ≤ recordsPerBlock) ⌝ }
+{
+    let before = RECORDS_PER_BLOCK * (block - 1);
+    if total <= before {
+        return 0;
+    }
+    let left = total - before;
+    if left < RECORDS_PER_BLOCK {
+        left
+    } else {
+        RECORDS_PER_BLOCK
+    }
 }

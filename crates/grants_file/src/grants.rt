@@ -5,42 +5,38 @@ ghost use mathlib.Core.List.{_∷_};
 ghost use lib.ListN.{drop};
 ghost use Rattle.grants_file.specs.File.{blocksIn, totalIn, doorsIn, grantsIn};
 ghost use Rattle.grants_file.specs.FileSets.{Accepted};
-use crate::block::BLOCK_BYTES;
-use crate::block::RECORDS_PER_BLOCK;
-use crate::block::RECORDS_PLACE;
-use crate::block::wide;
 use crate::bytes::be16_at;
-use crate::record::RECORD_BYTES;
+use crate::bytes::count_at;
+use crate::layout::BLOCK_BYTES;
+use crate::layout::FIRST_DOOR_PLACE;
+use crate::layout::LAST_DOOR_PLACE;
+use crate::layout::RECORD_BYTES;
+use crate::layout::RECORDS_PER_BLOCK;
+use crate::layout::RECORDS_PLACE;
+use crate::layout::TOTAL_PLACE;
 use crate::record::decode_record;
 use model::Grant;
-
-// Where block 0 has n and the doors.
-const TOTAL_PLACE: usize = 6;
-
-const FROM_PLACE: usize = 8;
-
-const TO_PLACE: usize = 10;
 
 // Document 01's n.
 pub fn total_in(file: &[u8]) -> usize
     requires { ⌜ 0 < blocksIn (now file) ⌝ }
     ensures { λ r. ⌜ (r ≡ totalIn (now (file .entry))) × (r < 65536) ⌝ }
 {
-    wide(be16_at(file, TOTAL_PLACE))
+    count_at(file, TOTAL_PLACE)
 }
 
 pub fn first_door(file: &[u8]) -> u16
     requires { ⌜ 0 < blocksIn (now file) ⌝ }
     ensures { λ r. ⌜ r ≡ doorsIn (now (file .entry)) .from ⌝ }
 {
-    be16_at(file, FROM_PLACE)
+    be16_at(file, FIRST_DOOR_PLACE)
 }
 
 pub fn last_door(file: &[u8]) -> u16
     requires { ⌜ 0 < blocksIn (now file) ⌝ }
     ensures { λ r. ⌜ r ≡ doorsIn (now (file .entry)) .to ⌝ }
 {
-    be16_at(file, TO_PLACE)
+    be16_at(file, LAST_DOOR_PLACE)
 }
 
 // Grant i of an accepted file, from 0 on, across its blocks.

@@ -1,18 +1,90 @@
 // Records, blocks and files of grants (document 01, "The grants file"). What they are stands in specs/.
-// Nothing here knows of a pool or makes one.
+// Any bytes are taken as a file, and none are changed but by the functions that write. Nothing here knows of a pool or makes one.
 pub mod block;
+pub mod block_defects;
 pub mod block_read;
 pub mod bytes;
+pub mod contents;
+pub mod defects;
 pub mod file;
 pub mod grants;
+pub mod layout;
+pub mod lookup;
 pub mod record;
+pub mod record_defects;
+pub mod validate;
 pub mod verdict;
 pub mod write_block;
 
-use model::Fault;
+use model::Grant;
 
-// A block's answer: sound, with the number that the records of the next block must be above; or its fault.
+// What is wrong in a file, finer than document 01's fault: 10; 12; 11 by its causes; 13 by its causes.
+// A record counts from 1 in its block; its number is the grant's, as it stands there.
+pub enum Defect {
+    Sound,
+    Length,
+    Checksum {
+        block: usize,
+    },
+    Mark {
+        block: usize,
+    },
+    BlockNumber {
+        block: usize,
+    },
+    TooManyGrants {
+        total: usize,
+    },
+    BlockCount {
+        total: usize,
+        blocks: usize,
+    },
+    RecordCount {
+        block: usize,
+    },
+    DoorOrder {
+        from: u16,
+        to: u16,
+    },
+    Padding {
+        block: usize,
+    },
+    NumberOrder {
+        block: usize,
+        place: usize,
+        number: u16,
+    },
+    Kind {
+        block: usize,
+        place: usize,
+        number: u16,
+    },
+    Reversed {
+        block: usize,
+        place: usize,
+        number: u16,
+    },
+    Doors {
+        block: usize,
+        place: usize,
+        number: u16,
+    },
+}
+
+// A block's answer: sound, with the number that the records of the next block must be above; or what is wrong in it.
 pub enum BlockAnswer {
     Sound { last: u16 },
-    Wrong(Fault),
+    Wrong(Defect),
+}
+
+// The doors that a file was cut for; none where it is refused.
+pub enum Doors {
+    Are { from: u16, to: u16 },
+    Unknown,
+}
+
+// A grant of the file, or none.
+pub enum Entry {
+    Is(Grant),
+    Absent,
 }

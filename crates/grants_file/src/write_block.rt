@@ -6,10 +6,16 @@ ghost use mathlib.Core.List.{_++_};
 ghost use lib.ListN.{length, take, replicate};
 ghost use lib.Seq.{sets};
 ghost use Rattle.grants_file.specs.Bytes.{be16};
-ghost use Rattle.grants_file.specs.Block.{blockBytes, checksumPlace, magic, sealed, headerBlock};
-use crate::block::CHECKSUM_PLACE;
-use crate::block::HEADER_END;
+ghost use Rattle.grants_file.specs.Layout.{blockBytes, checksumPlace, magic};
+ghost use Rattle.grants_file.specs.Block.{sealed, headerBlock};
 use crate::bytes::put_be16;
+use crate::layout::CHECKSUM_PLACE;
+use crate::layout::COUNT_PLACE;
+use crate::layout::FIRST_DOOR_PLACE;
+use crate::layout::HEADER_END;
+use crate::layout::LAST_DOOR_PLACE;
+use crate::layout::MAGIC;
+use crate::layout::NUMBER_PLACE;
 use checksum::checksum;
 
 // Zeros from a place on up to the check.
@@ -39,10 +45,10 @@ fn put_magic(block: &mut [u8])
     requires { ⌜ length (now block) ≡ blockBytes ⌝ }
     ensures { λ r. ⌜ now (block .exit) ≡ sets (now (block .entry)) 0 magic ⌝ }
 {
-    block[0] = 0x4C;
-    block[1] = 0x47;
-    block[2] = 0x46;
-    block[3] = 0x31;
+    block[0] = MAGIC[0];
+    block[1] = MAGIC[1];
+    block[2] = MAGIC[2];
+    block[3] = MAGIC[3];
 }
 
 // The mark, the block's number and the count that follows it.
@@ -51,8 +57,8 @@ pub fn start_block(block: &mut [u8], number: u16, count: u16)
     ensures { λ r. ⌜ now (block .exit) ≡ sets (now (block .entry)) 0 (magic ++ be16 number ++ be16 count) ⌝ }
 {
     put_magic(block);
-    put_be16(block, 4, number);
-    put_be16(block, 6, count);
+    put_be16(block, NUMBER_PLACE, number);
+    put_be16(block, COUNT_PLACE, count);
 }
 
 // Block 0 of a file of so many grants.
@@ -61,7 +67,7 @@ pub fn write_header(block: &mut [u8], total: u16, from: u16, to: u16)
     ensures { λ r. ⌜ now (block .exit) ≡ headerBlock total (record { from = from; to = to }) ⌝ }
 {
     start_block(block, 0, total);
-    put_be16(block, 8, from);
-    put_be16(block, 10, to);
+    put_be16(block, FIRST_DOOR_PLACE, from);
+    put_be16(block, LAST_DOOR_PLACE, to);
     seal(block, HEADER_END);
 }

@@ -3,14 +3,13 @@
 --   firstFault-append              causes of which none holds may be left out in front
 --   firstFault-front               what comes after a cause that holds does not matter
 --   append-absent                  where none of two rows of causes holds, none of either does
---   firstFault-flatMap, flatMap-firstFault    none of joined causes holds exactly if none of each part does
 --   refusing-front                 the answer of a call whose line has a cause, and then causes of which one holds
 --   accepted-none, accepted-done   a call that is accepted met no cause, and did what an accepted call does
 -- Assumes nothing.
 use Prim.Native.Nat.{ℕ}
-use mathlib.Core.Path.{_≡_, refl, ap, _∙_}
+use mathlib.Core.Path.{_≡_, refl}
 use mathlib.Core.Bool.{Bool, true, false, cond}
-use mathlib.Core.List.{List, [], _∷_, _++_, flatMap, List·Memᴰ, List·Memᴰ·head, List·Memᴰ·tail}
+use mathlib.Core.List.{List, [], _∷_, _++_}
 use mathlib.Core.Option.{Option, none, some}
 use native.Mathlib.Omega.{arith}
 use Rattle.model.specs.declared.Fault.{Fault}
@@ -48,18 +47,6 @@ append-absent (c ∷ cs) ds e =
     let absent = causes-absent c (cs ++ ds) e in
     let both = append-absent cs ds (absent .1) in
     (rw (absent .0) (both .0), both .1)
-
-module _ {A : Type 0} (causes : A → List Cause) where
-  pub firstFault-flatMap : (xs : List A) → ((x : A) → List·Memᴰ x xs → firstFault (causes x) ≡ none) → firstFault (flatMap causes xs) ≡ none
-  unfolding firstFault flatMap
-  firstFault-flatMap [] h = refl
-  firstFault-flatMap (x ∷ xs) h =
-      firstFault-append (causes x) (flatMap causes xs) (h x (List·Memᴰ·head refl)) ∙ firstFault-flatMap xs (λ y m. h y (List·Memᴰ·tail m))
-
-  pub flatMap-firstFault : (xs : List A) → firstFault (flatMap causes xs) ≡ none → (x : A) → List·Memᴰ x xs → firstFault (causes x) ≡ none
-  unfolding flatMap
-  flatMap-firstFault (y ∷ ys) e x (List·Memᴰ·head q) = ap (λ (z : A). firstFault (causes z)) q ∙ append-absent (causes y) (flatMap causes ys) e .0
-  flatMap-firstFault (y ∷ ys) e x (List·Memᴰ·tail m) = flatMap-firstFault ys (append-absent (causes y) (flatMap causes ys) e .1) x m
 
 pub refusing-front : {S : Type 0} (c : Cause) (cs ds : List Cause) (s : S) (lent : List ℕ) (d : Step S) (f : Fault) → firstFault cs ≡ some f
     → refusing (c ∷ cs ++ ds) s lent d .answer ≡ cond (c .present) (refusal (c .fault)) (refusal f)

@@ -1,32 +1,27 @@
 -- `report::say_rows` is safe, and ends with its rows. Assumes nothing.
-use Prim.Native.Nat.{_-_, _≤_}
+use Prim.Native.Nat.{_-_}
+use mathlib.Core.Path.{_≡_}
+use native.Mathlib.Omega.{arith}
+use Rattle.grants_file.specs.File.{totalIn}
+use Rattle.grants_file.proofs.GrantSteps.{accepted-whole}
 use borrow.Author.Needs.{needs}
 use Rattle.commands.proofs.report.say_rows.Statement.{statement}
 use Rattle.commands.proofs.report.say_rows.Tie as tie
 
 abbrev Inv-loop : tie.InvT-loop
-Inv-loop file total i₀ i = i ≤ total
+Inv-loop file total i₀ i = total ≡ totalIn file
 
 abbrev μ-loop : tie.MeasureT-loop
 μ-loop file total i₀ i = total - i
 
-total-of-requires : tie.Need-total-of-requires Inv-loop μ-loop
-total-of-requires c κs = search needs
+total-in-requires : tie.Need-total-in-requires Inv-loop μ-loop
+total-in-requires c κs = accepted-whole _ (c .before .pre) .some
 
 loop-holds : tie.Need-loop-holds Inv-loop μ-loop
-loop-holds c = search needs
+loop-holds c = c .total-in .ensures .0
 
-nth-requires : tie.Need-nth-requires Inv-loop μ-loop
-nth-requires c κs = search needs
-
-enum-known-g : tie.Need-enum-known-g Inv-loop μ-loop
-enum-known-g c = search needs
-
-enum-told : tie.Need-enum-told Inv-loop μ-loop
-enum-told c = search needs
-
-returns : tie.Need-returns Inv-loop μ-loop
-returns c = search needs
+grant-in-requires : tie.Need-grant-in-requires Inv-loop μ-loop
+grant-in-requires c κs = (c .before .before .before .before .pre, omega (arith, c .before .loop .inv))
 
 say-grant-requires : tie.Need-say-grant-requires Inv-loop μ-loop
 say-grant-requires c κs = search needs
@@ -40,8 +35,8 @@ loop-less c = search needs
 loop-again : tie.Need-loop-again Inv-loop μ-loop
 loop-again c = search needs
 
-returns-2 : tie.Need-returns-2 Inv-loop μ-loop
-returns-2 c = search needs
+returns : tie.Need-returns Inv-loop μ-loop
+returns c = search needs
 
 pub say-rows-spec : {M : Type 1} → statement M
 say-rows-spec =
@@ -49,14 +44,11 @@ say-rows-spec =
     (tie.spec
     Inv-loop
     μ-loop
-    total-of-requires
+    total-in-requires
     loop-holds
-    nth-requires
-    enum-known-g
-    enum-told
-    returns
+    grant-in-requires
     say-grant-requires
     add-i
     loop-less
     loop-again
-    returns-2)
+    returns)

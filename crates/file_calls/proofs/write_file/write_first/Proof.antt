@@ -1,7 +1,7 @@
 -- `write_file::write_first` meets its contract. Assumes nothing.
 use mathlib.Core.Path.{sym}
 use lib.Seq.{length-take-le}
-use Rattle.grants_file.specs.Block.{blockBytes}
+use Rattle.grants_file.specs.Layout.{blockBytes}
 use borrow.Author.Needs.{needs}
 use Rattle.file_calls.proofs.write_file.write_first.Statement.{statement}
 use Rattle.file_calls.proofs.write_file.write_first.Tie as tie

@@ -5,8 +5,8 @@ use mathlib.Core.List.{flatMap}
 use native.Mathlib.Omega.{arith}
 use lib.ListN.{length}
 use lib.Seq.{sets}
+use Rattle.grants_file.specs.Layout.{blockBytes, recordsPlace}
 use Rattle.grants_file.specs.Record.{encodeRecord}
-use Rattle.grants_file.specs.Block.{blockBytes, recordsPlace}
 use Rattle.index.proofs.HitsLaws.{cell-hit}
 use Rattle.file_calls.proofs.WriteFileLaws.{grantsFrom, records-none, records-more}
 use borrow.Author.Needs.{needs}

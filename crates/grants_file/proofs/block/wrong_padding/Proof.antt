@@ -5,7 +5,8 @@ use mathlib.Core.Bool.{not}
 use native.Mathlib.Omega.{arith}
 use lib.ListN.{length}
 use borrow.Author.Needs.{needs}
-use Rattle.grants_file.specs.Block.{checksumPlace, wrongPadding}
+use Rattle.grants_file.specs.Layout.{checksumPlace}
+use Rattle.grants_file.specs.Block.{wrongPadding}
 use Rattle.grants_file.proofs.BlockSteps.{zerosFrom, padding-found, padding-next, padding-end}
 use Rattle.grants_file.proofs.block.wrong_padding.Statement.{statement}
 use Rattle.grants_file.proofs.block.wrong_padding.Tie as tie

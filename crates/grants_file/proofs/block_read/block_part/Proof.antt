@@ -1,7 +1,7 @@
 -- `block_read::block_part` meets its contract. An accepted block is in the file and has at most 31 records. Assumes nothing.
 use mathlib.Core.Path.{_∙_}
+use Rattle.grants_file.proofs.BlockReadSteps.{done-in, done-count, part-refused, part-header, part-records}
 use borrow.Author.Needs.{needs}
-use Rattle.grants_file.proofs.BlockReadSteps.{done-passed, done-count, part-refused, part-header, part-records}
 use Rattle.grants_file.proofs.block_read.block_part.Statement.{statement}
 use Rattle.grants_file.proofs.block_read.block_part.Tie as tie
 
@@ -39,9 +39,8 @@ returns-2 : tie.Need-returns-2
 returns-2 c = part-header _ _ (rw (c .before .before .enum-told .given .1) at (c .before .before .before .before .block-verdict .ensures)) (c .before .if1 .taken)
 
 records-part-requires : tie.Need-records-part-requires
-records-part-requires c κs =
-    let done = done-passed _ _ (rw (c .before .enum-told .given .1) at (c .before .before .before .block-verdict .ensures)) in
-    (done .inside, done-count _ _ (done .alone) (c .if1 .left))
+records-part-requires c κs = let done = rw (c .before .enum-told .given .1) at (c .before .before .before .block-verdict .ensures) in
+    (done-in _ _ done, done-count _ _ done (c .if1 .left))
 
 returns-3 : tie.Need-returns-3
 returns-3 c = c .records-part .ensures ∙ part-records _ _ (rw (c .before .before .enum-told .given .1) at (c .before .before .before .before .block-verdict .ensures)) (c .before .if1 .left)

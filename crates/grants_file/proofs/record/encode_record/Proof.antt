@@ -6,7 +6,7 @@ use lib.ListN.{length, take, length-set}
 use lib.Seq.{sets}
 use borrow.Author.Needs.{needs}
 use Rattle.lists.proofs.StoreLaws.{sets-turn, sets-end}
-use Rattle.grants_file.specs.Record.{recordBytes}
+use Rattle.grants_file.specs.Layout.{recordBytes}
 use Rattle.grants_file.proofs.record.encode_record.Statement.{statement}
 use Rattle.grants_file.proofs.record.encode_record.Tie as tie
 

@@ -4,7 +4,7 @@ use mathlib.Core.Path.{_≡_, refl}
 use native.Mathlib.Omega.{arith}
 use lib.ListN.{length, replicate, length-set}
 use lib.Seq.{sets}
-use Rattle.grants_file.specs.Block.{blockBytes, checksumPlace}
+use Rattle.grants_file.specs.Layout.{blockBytes, checksumPlace}
 use Rattle.grants_file.proofs.WriteBlockSteps.{zeros-none, zeros-turn, zeros-end}
 use borrow.Author.Needs.{needs}
 use Rattle.grants_file.proofs.write_block.clear_padding.Statement.{statement}

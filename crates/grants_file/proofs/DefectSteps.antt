@@ -1,0 +1,151 @@
+-- The first defect of a block, one test after the other, as the code finds it.
+--   start-checksum .. start-sound        the check, the mark and the number
+--   padding-wrong, padding-sound         the fill
+--   layout-count, layout-padding         the record count, by a test of it, then the fill
+--   header-total .. header-padding       block 0 behind its start
+--   record-number .. record-doors        a record
+--   records-wrong, records-next, records-end   the records left, one at a time
+-- Assumes nothing.
+use Prim.Native.Nat.{ℕ, _+_, _-_, _<_, _≤_}
+use mathlib.Core.Path.{_≡_, refl, sym, ap, _∙_}
+use mathlib.Core.Bool.{Bool, true, false}
+use mathlib.Core.List.{List}
+use native.Mathlib.Numerals.{add-one}
+use native.Mathlib.Omega.{arith}
+use lib.ListN.{getD}
+use borrow.Author.Tests.{eq-eqb, ne-eqb, lt-ltb, le-ltb, le-leb, lt-leb}
+use Rattle.lists.specs.Ranges.{countFrom}
+use Rattle.model.specs.declared.Grant.{Grant}
+use Rattle.model.specs.Interval.{Interval}
+use Rattle.model.specs.Limits.{maxGrants}
+use Rattle.model.specs.Box.{doorsOf}
+use Rattle.model.specs.Overlap.{overlapOn}
+use Rattle.model.specs.Arguments.{reversedBox}
+use Rattle.grants_file.specs.declared.Defect.{Defect}
+use Rattle.grants_file.specs.declared.Defect.the-variants.{Sound, Checksum, Mark, BlockNumber, TooManyGrants, BlockCount}
+use Rattle.grants_file.specs.declared.Defect.the-variants.{RecordCount, DoorOrder, Padding, NumberOrder, Kind, Reversed, Doors}
+use Rattle.grants_file.specs.Layout.{numberPlace, headerEnd, recordPlace, kindPlace}
+use Rattle.grants_file.specs.Bytes.{be16At}
+use Rattle.grants_file.specs.Record.{recordNumber, decodeRecord}
+use Rattle.grants_file.specs.Block.{countOf, hasMagic, wrongChecksum, wrongPadding}
+use Rattle.grants_file.specs.File.{blocksFor, blocksIn, blockAt, totalIn, doorsIn}
+use Rattle.grants_file.specs.Defects.{startDefects, paddingDefects, layoutDefects, headerDefects, recordDefects, recordsDefects, isWrong, firstDefect}
+use Rattle.grants_file.proofs.RecordSteps.{recordAt, number-at, kind-at}
+use Rattle.grants_file.proofs.BlockSteps.{recordsFrom, records-cons}
+use Rattle.grants_file.proofs.DefectLaws.{front-wrong, front-sound}
+
+-- the start of a block
+module _ (b : List ℕ) (i : ℕ) where
+  pub start-checksum : true ≡ wrongChecksum b → Checksum i ≡ firstDefect (startDefects b i)
+  unfolding firstDefect
+  start-checksum h = rw (← h)
+
+  module _ (checked : false ≡ wrongChecksum b) where
+    pub start-mark : false ≡ hasMagic b → Mark i ≡ firstDefect (startDefects b i)
+    unfolding firstDefect
+    start-mark h = rw (← checked, ← h)
+
+    module _ (mark : true ≡ hasMagic b) {n : ℕ} (e : n ≡ be16At b numberPlace) where
+      pub start-number : (n ≡ i → ⊥) → BlockNumber i ≡ firstDefect (startDefects b i)
+      unfolding firstDefect
+      start-number h = rw (← checked, ← mark, ne-eqb (be16At b numberPlace) i (λ same. h (e ∙ same)))
+
+      pub start-sound : n ≡ i → Sound ≡ firstDefect (startDefects b i)
+      unfolding firstDefect
+      start-sound h = rw (← checked, ← mark, eq-eqb (be16At b numberPlace) i (sym e ∙ h))
+
+-- its fill
+module _ (b : List ℕ) (i at : ℕ) where
+  pub padding-wrong : true ≡ wrongPadding b at → Padding i ≡ firstDefect (paddingDefects b i at)
+  unfolding firstDefect
+  padding-wrong h = rw (← h)
+
+  pub padding-sound : false ≡ wrongPadding b at → Sound ≡ firstDefect (paddingDefects b i at)
+  unfolding firstDefect
+  padding-sound h = rw (← h)
+
+-- its record count and its fill
+module _ (b : List ℕ) (i : ℕ) {t : Bool} where
+  pub layout-count : t ≡ true → RecordCount i ≡ firstDefect (layoutDefects b i t)
+  unfolding firstDefect
+  layout-count h = rw h
+
+  pub layout-padding : t ≡ false → {n : ℕ} {x : Defect} → n ≡ countOf b → x ≡ firstDefect (paddingDefects b i (recordPlace n))
+      → x ≡ firstDefect (layoutDefects b i t)
+  unfolding firstDefect
+  layout-padding h n e = rw (h, ← n) e
+
+-- block 0 behind its start
+module _ (f : List ℕ) {total : ℕ} (t : total ≡ totalIn f) where
+  pub header-total : maxGrants < total → TooManyGrants total ≡ firstDefect (headerDefects f)
+  unfolding firstDefect
+  header-total h = rw (← t, lt-ltb maxGrants total h)
+
+  module _ (few : total ≤ maxGrants) {blocks due : ℕ} (n : blocks ≡ blocksIn f) (d : due ≡ blocksFor total) where
+    pub header-count : (blocks ≡ due → ⊥) → BlockCount total blocks ≡ firstDefect (headerDefects f)
+    unfolding firstDefect
+    header-count h = rw (← t, le-ltb maxGrants total few, ← n, ← d, ne-eqb blocks due h)
+
+    module _ (same : blocks ≡ due) {from to : ℕ} (p : from ≡ doorsIn f .from) (q : to ≡ doorsIn f .to) where
+      pub header-doors : to < from → DoorOrder from to ≡ firstDefect (headerDefects f)
+      unfolding firstDefect
+      header-doors h = rw (← t, le-ltb maxGrants total few, ← n, ← d, eq-eqb blocks due same, ← p, ← q, lt-ltb to from h)
+
+      pub header-padding : from ≤ to → {b : List ℕ} {x : Defect} → b ≡ blockAt f 0 → x ≡ firstDefect (paddingDefects b 0 headerEnd)
+          → x ≡ firstDefect (headerDefects f)
+      unfolding firstDefect
+      header-padding order block e =
+          rw (← t, le-ltb maxGrants total few, ← n, ← d, eq-eqb blocks due same, ← p, ← q, le-ltb to from order, ← block) e
+
+-- a record
+module _ (doors : Interval) (i k last : ℕ) (b : List ℕ) (at : ℕ) {g : Grant} (read : g ≡ decodeRecord (recordAt b at)) where
+  number : g .number ≡ recordNumber (recordAt b at)
+  unfolding decodeRecord
+  number = ap (λ (h : Grant). h .number) read
+
+  pub record-number : g .number ≤ last → NumberOrder i k (g .number) ≡ firstDefect (recordDefects doors i k last (recordAt b at))
+  unfolding firstDefect
+  record-number h = rw (← number, le-leb (g .number) last h)
+
+  module _ (above : last < g .number) where
+    pub record-kind : 1 < getD b (at + kindPlace) 0 → Kind i k (g .number) ≡ firstDefect (recordDefects doors i k last (recordAt b at))
+    unfolding firstDefect
+    record-kind h = rw (← number, lt-leb (g .number) last above, kind-at b at, lt-ltb 1 (getD b (at + kindPlace) 0) h)
+
+    module _ (kind : getD b (at + kindPlace) 0 ≤ 1) where
+      pub record-reversed : true ≡ reversedBox (g .bounds) → Reversed i k (g .number) ≡ firstDefect (recordDefects doors i k last (recordAt b at))
+      unfolding firstDefect
+      record-reversed h = rw (← number, lt-leb (g .number) last above, kind-at b at, le-ltb 1 (getD b (at + kindPlace) 0) kind, ← read, ← h)
+
+      module _ (order : false ≡ reversedBox (g .bounds)) where
+        pub record-sound : true ≡ overlapOn (doorsOf (g .bounds)) doors → Sound ≡ firstDefect (recordDefects doors i k last (recordAt b at))
+        unfolding firstDefect
+        record-sound h = rw (← number, lt-leb (g .number) last above, kind-at b at, le-ltb 1 (getD b (at + kindPlace) 0) kind, ← read, ← order, ← h)
+
+        pub record-doors : false ≡ overlapOn (doorsOf (g .bounds)) doors → Doors i k (g .number) ≡ firstDefect (recordDefects doors i k last (recordAt b at))
+        unfolding firstDefect
+        record-doors h = rw (← number, lt-leb (g .number) last above, kind-at b at, le-ltb 1 (getD b (at + kindPlace) 0) kind, ← read, ← order, ← h)
+
+-- the records from the i-th on, of n
+module _ (doors : Interval) (m last : ℕ) (b : List ℕ) (i n : ℕ) where
+  -- what is wrong in them
+  abbrev pub defectFrom : Defect
+  defectFrom = firstDefect (recordsDefects doors m (i + 1) last (recordsFrom b i n))
+
+  module _ (more : i < n) {x : Defect} (e : x ≡ firstDefect (recordDefects doors m (i + 1) last (recordAt b (recordPlace i)))) where
+    pub records-wrong : true ≡ isWrong x → x ≡ defectFrom
+    unfolding recordsDefects
+    records-wrong w = rw (records-cons b i n more) (front-wrong (recordDefects doors m (i + 1) last (recordAt b (recordPlace i))) _ e w)
+
+    pub records-next : false ≡ isWrong x → {next : ℕ} → next ≡ be16At b (recordPlace i)
+        → firstDefect (recordsDefects doors m (i + 1 + 1) next (recordsFrom b (i + 1) n)) ≡ defectFrom
+    unfolding recordsDefects
+    records-next w h =
+        rw (records-cons b i n more, h, ← number-at b (recordPlace i), add-one (i + 1))
+        (sym (front-sound (recordDefects doors m (i + 1) last (recordAt b (recordPlace i))) _ e w))
+
+  pub records-end : n ≤ i → Sound ≡ defectFrom
+  unfolding recordsDefects countFrom firstDefect
+  records-end h =
+      let e : n - i ≡ 0 = omega arith in
+      rw e

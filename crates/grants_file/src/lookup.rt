@@ -1,0 +1,37 @@
+// A grant of a file by its number (specs/Contents). A file that is refused gives none.
+ghost use mathlib.Core.Path.{_≡_};
+ghost use Rattle.grants_file.specs.File.{grantsIn};
+ghost use Rattle.grants_file.specs.FileSets.{Accepted};
+ghost use Rattle.grants_file.specs.Contents.{numberedOf, numberedIn};
+use crate::Entry;
+use crate::defects::is_wrong;
+use crate::grants::grant_in;
+use crate::grants::total_in;
+use crate::validate::validate;
+
+// The grant of an accepted file with this number.
+fn find_number(file: &[u8], number: u16) -> Entry
+    requires { ⌜ Accepted (now file) ⌝ }
+    ensures { λ r. ⌜ r ≡ numberedOf (grantsIn (now (file .entry))) number ⌝ }
+{
+    let total = total_in(file);
+    let mut i: usize = 0;
+    while i < total {
+        let g = grant_in(file, i);
+        if g.number == number {
+            return Entry::Is(g);
+        }
+        i += 1;
+    }
+    Entry::Absent
+}
+
+// The grant with this number.
+pub fn numbered(file: &[u8], number: u16) -> Entry
+    ensures { λ r. ⌜ r ≡ numberedIn (now (file .entry)) number ⌝ }
+{
+    if is_wrong(validate(file)) {
+        return Entry::Absent;
+    }
+    find_number(file, number)
+}
