@@ -1,4 +1,4 @@
--- Every call on words that stand for a plain book is told what the book is told, and leaves words that stand for what the book is then.
+-- Every call on words that stand for a plain book has the book's response, and leaves words that stand for what the book is then.
 --   call-refines
 -- Assumes nothing.
 use Prim.Native.Nat.{ℕ}

@@ -1,4 +1,4 @@
--- grant on words that stand for a plain book: it is told what the book is told, and the words then stand for what the book is then.
+-- grant on words that stand for a plain book: it has the book's response, and the words then stand for what the book is then.
 --   grant-whole         no walk of grant is broken: 112 levels are enough
 --   insert-represents   the words with the grant added where its way leads
 --   grant-refines

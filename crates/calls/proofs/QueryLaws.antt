@@ -1,4 +1,4 @@
--- list, decide and count on words that stand for a plain book: they are told what the book is told, and the words stay.
+-- list, decide and count on words that stand for a plain book: they have the book's responses, and the words stay.
 --   list-refines, decide-refines, count-refines
 -- Assumes nothing.
 use Prim.Native.Nat.{ℕ}

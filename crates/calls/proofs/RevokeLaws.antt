@@ -1,4 +1,4 @@
--- revoke on words that stand for a plain book: it is told what the book is told, and the words then stand for what the book is then.
+-- revoke on words that stand for a plain book: it has the book's response, and the words then stand for what the book is then.
 --   FirstFound w n t s   the cell of the number n: the search s has it as its first hit, and knows where it hangs in the tree t
 --   first-found          so does the number's search, where the number is live
 --   revoke-whole         no walk of revoke is broken

@@ -1,4 +1,4 @@
--- Demand 3's heart: every list of calls on a fresh index is responses what the plain book tells it, and leaves words that stand for the book then.
+-- Demand 3's heart: every list of calls on a fresh index has the plain book's responses, and leaves words that stand for the book then.
 --   represents-calls     of any words that stand for a book, and that book
 --   represents-files     write there gives the file of any doors and the live grants touching them
 --   memory-sized         memory for a pool, as index/proofs speak of it

@@ -1,4 +1,4 @@
--- The claims of journals (specs/Claim). Assumes nothing.
+-- The claims of journals (specs/JournalClaims). Assumes nothing.
 --   journals-replay, journals-respond
 use Rattle.model.specs.Book.{emptyBook, bookStep}
 use Rattle.calls.specs.Calls.{startCall, wordsStep}

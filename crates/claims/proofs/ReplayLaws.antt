@@ -1,7 +1,7 @@
 -- From one line to a journal: the calls of its lines, one after another (specs/JournalStep).
 --   replayed-after       the state after a journal is the one after the list of its calls
---   results-responses            where every line is a call, the lines come to what the calls are responses
---   LinesAgree R x y     two lines' steps result to the same, and leave states that R relates
+--   results-responses            where every line is a call, the lines come to the responses to their calls
+--   LinesAgree R x y     two lines' steps come to the same, and leave states that R relates
 --   line-refines         one line, on machines whose calls agree
 --   result-refines         a journal, on such machines
 --   callsIn-fit          the numbers of a journal's calls are values of their fields

@@ -1,4 +1,4 @@
--- The claim of the slip program (specs/Claim), from what each call is told. Assumes nothing.
+-- The claim of the slip program (specs/SlipClaims), from the response to each call. Assumes nothing.
 --   slips-print
 use Rattle.model.specs.Book.{emptyBook, bookStep}
 use Rattle.calls.specs.Calls.{startCall, wordsStep}

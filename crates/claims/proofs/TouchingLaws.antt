@@ -1,7 +1,7 @@
 -- On words that stand for a plain book, the panel shows the live grants that hold the door and the quarter.
 --   grants-touching    they are what the search hits, ascending by number
 --   shows-touching     and what is shown row by row
---   touching-claim     so it is after any calls (specs/Claim)
+--   touching-claim     so it is after any calls (specs/PanelClaims)
 -- Assumes nothing.
 use Prim.Native.Nat.{ℕ}
 use mathlib.Core.Path.{_≡_, refl, ap, _∙_}

@@ -1,18 +1,18 @@
 -- The claims: the three demands of document 00, as types. Nothing is assumed but what each type names before its arrow.
 --   Demand1    each call is refused under its fault, and else accepted; made pools never give 9
 --   Demand2    a hit is condition (5); the accepted files; load, match, one byte changed; the parts that block read hands back
---   Demand3    every list of calls is responses what the plain book tells it, on one tree, through every file
--- Which field shuts out each of document 01's "Worthless versions":
---   list always empty, decide always none    Demand2 .lists, .decisions; Demand3 .answers
---   "no free cell" while one is free         Demand3 .answers: the book gives 6 only at C live
---   accepted, tree untouched                 Demand3 .answers, of the calls that follow; .holds
---   first grants stored, later acknowledged  Demand3 .answers: one list of calls, whole
---   counts not from the links                Demand3 .holds and .answers: the reached cells carry the live grants, as many as counted
---   plain scan behind links of any order     Demand3 .holds .placed
---   every file written for all doors         Demand3 .files: the file is that of B and the grants touching it
---   match always equal; file always empty    Demand2 .matches, .accepted-files
---   refuses every call                       Demand1: Judged .accepts; Demand2 .accepted-files
---   gives 9 on a sound pool                  Demand3 .answers, Demand1 .never-broken
+--   Demand3    every list of calls has the plain book's responses, on one tree, through every file
+-- Which field refuses each of the useless programs that document 01 lists ("Worthless versions"):
+--   nothing is ever listed or decided             Demand2 .lists, .decisions; Demand3 .answers
+--   6 although a cell is free                     Demand3 .answers: the book gives 6 only at C live
+--   a grant or revoke that changes no link        Demand3 .answers, of the calls that follow; .holds
+--   only the first grants are stored              Demand3 .answers: one list of calls, whole
+--   a count that is kept beside the tree          Demand3 .holds and .answers: the reached cells carry the live grants, as many as counted
+--   a list under links in any order               Demand3 .holds .placed
+--   files that hold every door's grants           Demand3 .files: the file is that of B and the grants touching it
+--   match never differs; files without grants     Demand2 .matches, .accepted-files
+--   nothing is accepted                           Demand1: Judged .accepts; Demand2 .accepted-files
+--   9 on a pool that calls made                   Demand3 .answers, Demand1 .never-broken
 use Prim.Native.Nat.{ℕ, _/_, _≤_, _<_}
 use mathlib.Core.Logic.{_↔_, _≢_}
 use mathlib.Core.Path.{_≡_}

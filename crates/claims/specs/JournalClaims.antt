@@ -2,7 +2,7 @@
 -- Nothing is assumed but what each type names before its arrow.
 --   Replayed c memory lines    of one index and one journal
 --   JournalsReplay             on every fresh index of c cells, c from 1 to 2,048, whatever its memory held, every list of lines
---   JournalsRespond               where every line is a grant or a revoke slip, the lines come to what the list of their calls is responses
+--   JournalsRespond               where every line is a grant or a revoke slip, the lines come to the responses to the list of their calls
 -- A line is any list of numbers, so any bytes; the contract of `replay_line` says that the code makes a line's `journalStep` with `wordsStep`.
 use Prim.Native.Nat.{ℕ}
 use mathlib.Core.Path.{_≡_}

@@ -58,11 +58,11 @@ fn cut_doors(from: u16, to: u16) {
     }
 }
 
-// The number that a word gives.
+// The number that an argument gives.
 fn door_at(place: usize) -> Number {
-    let mut word = io::buffer();
-    let length = os::arg(place, &mut word);
-    number_of(&word[..length])
+    let mut argument = io::buffer();
+    let length = os::arg(place, &mut argument);
+    number_of(&argument[..length])
 }
 
 pub fn cut() {

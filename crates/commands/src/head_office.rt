@@ -110,7 +110,7 @@ pub fn replay(path: &[u8], pool: &mut [u16]) -> bool {
     whole
 }
 
-// The same for the journal that the third word names.
+// The same for the journal that the second argument names.
 pub fn replay_named(pool: &mut [u16]) -> bool {
     let mut path = io::buffer();
     let length = os::arg(2, &mut path);

@@ -170,9 +170,9 @@ pub fn panel(file: &[u8]) {
         open(file, Base::Unknown);
         return;
     }
-    let mut word = io::buffer();
-    let length = os::arg(3, &mut word);
-    let base = day_of_text(&word[..length]);
+    let mut argument = io::buffer();
+    let length = os::arg(3, &mut argument);
+    let base = day_of_text(&argument[..length]);
     match base {
         Day::Is(day) => open(file, Base::Day(day)),
         Day::Bad => warn(b"grants: BASE-DAY is no day: write it as 2026-01-31\n"),

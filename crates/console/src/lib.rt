@@ -1,4 +1,4 @@
-// Standard input and output, line by line and piece by piece, and the words that a program was started with.
+// Standard input and output, line by line and piece by piece, and the arguments that a program was started with.
 pub mod arguments;
 pub mod lines;
 pub mod output;

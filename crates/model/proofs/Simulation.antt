@@ -1,8 +1,8 @@
 -- From one call to a list of calls: a relation that each call keeps gives equal answers over every list (specs/Histories).
---   Agrees R x y        the steps x and y are responses the same, and leave states that R relates
+--   Agrees R x y        the steps x and y have one response, and leave states that R relates
 --   refusing-agrees     two calls whose first fault is the same agree, if they do where neither is refused
 --   accepting-agrees    a call that meets no fault agrees with what its step, accepted, agrees with
---   calls-refine        two machines whose calls agree are responses the same by every list of calls, and end in related states
+--   calls-refine        two machines whose calls agree have the same responses to every list of calls, and end in related states
 -- Assumes nothing: that each call keeps R is a parameter.
 use Prim.Native.Nat.{ℕ}
 use mathlib.Core.Path.{_≡_, refl, ap₂}

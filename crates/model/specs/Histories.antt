@@ -1,6 +1,6 @@
 -- Lists of calls, over any state (document 01, "The plain book": each call gets the pool that the one before left).
 --   Response            document 01's answer in demand 3: what the call returns, with the lent list after it
---   responses step s cs  what a list of calls is responses, from the state s on
+--   responses step s cs  the responses to a list of calls, from the state s on
 --   after step s cs the state after it
 -- Assumes nothing: these are definitions.
 use Prim.Native.Nat.{ℕ}

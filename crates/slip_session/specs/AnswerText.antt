@@ -3,7 +3,7 @@
 --   decidedText how number           of what decide answers
 --   acceptedText call values lent    of an accepted call, by its values (model/specs/Answer) and the lent list after it
 --   answerText call answer lent      of any answer; of a refusal only the fault's number is printed
--- The words and numerals are slip_text/specs/Text's. Assumes nothing: these are definitions.
+-- The words are those of Text, the numerals those of text/specs/Numeral. Assumes nothing: these are definitions.
 use Prim.Native.Nat.{ℕ}
 use mathlib.Core.Bool.{cond}
 use mathlib.Core.List.{List}

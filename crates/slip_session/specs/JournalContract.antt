@@ -1,4 +1,4 @@
--- How the contract of `replay_line` says that the code did what the definition of a line gives: one equation for what the line result to, one
+-- How the contract of `replay_line` says that the code did what the definition of a line gives: one equation for what the line comes to, one
 -- for the pool. Assumes nothing: this is a definition.
 --   Replays result pool r
 use Prim.Native.Nat.{ℕ}

@@ -1,9 +1,9 @@
 -- What replaying does, over any state and any calls on it.
---   LineResult                       what a line result to: its call was made, with this answer; or it was a question, or no slip
+--   LineResult                       what a line comes to: its call was made, with this answer; or it was a question, or no slip
 --   entryResult entry            the same of an answer of `replay_line`, in document 01's numbers
---   JournalStep                the state after a line, and what it result to
+--   JournalStep                the state after a line, and what it comes to
 --   journalStep step s line    of one line's bytes
---   lineResults step s lines        what each line of a journal result to, each from the state that the one before left
+--   lineResults step s lines        what each line of a journal comes to, each from the state that the one before left
 --   replayed step s lines      the state after the journal
 -- With index's wordsStep these are the code, with the model's bookStep the plain book. Assumes nothing: these are definitions.
 use Prim.Native.Nat.{ℕ}

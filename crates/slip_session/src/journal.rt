@@ -11,7 +11,7 @@ use index::grant::grant;
 use index::revoke::revoke;
 use model::Outcome;
 
-// What a journal's line result to: its call was made, with this answer; or it is a question, or no slip.
+// What a journal's line comes to: its call was made, with this answer; or it is a question, or no slip.
 pub enum Entry {
     Made(Outcome),
     Question,

@@ -1,5 +1,5 @@
 // The slip program (document 01, "Marked cases"): an index of 2,048 cells, a slip a line on standard input, an answer a line on standard
-// output. What a line does is `slip_session::answer`; how bytes become lines is `line_reader::next_line`.
+// output. What a line does is `crate::answer`; how bytes become lines is `console::lines::next_line`.
 use crate::LONGEST;
 use crate::answer;
 use crate::printing::LINE_BYTES;
