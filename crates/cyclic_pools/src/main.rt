@@ -3,6 +3,7 @@
 // empty index.
 use file_calls::matching::match_file;
 use file_calls::write::write;
+use grants_file::layout::BLOCK_BYTES;
 use grants_file::layout::MAX_BYTES;
 use index::start::start;
 use libc::STDOUT_FILENO;
@@ -77,7 +78,7 @@ fn write_all_doors(pool: &[u16]) {
 fn match_empty(pool: &[u16]) {
     let mut empty = [0u16; 13];
     start(&mut empty);
-    let mut file = [0u8; 512];
+    let mut file = [0u8; BLOCK_BYTES];
     write(&empty, 0, 65535, &mut file);
     let matched = match_file(pool, &file);
     match matched {
@@ -97,7 +98,7 @@ fn all_calls(pool: &mut [u16]) {
 fn main() {
     let mut wide = [0u16; MAX_WORDS];
     every_link_one(&mut wide);
-    header(&mut wide, 2048);
+    header(&mut wide, MAX_GRANTS as u16);
     all_calls(&mut wide);
 
     let mut three = [0u16; 33];
@@ -108,7 +109,7 @@ fn main() {
     all_calls(&mut three);
 
     let mut two = [0u16; MAX_WORDS];
-    header(&mut two, 2048);
+    header(&mut two, MAX_GRANTS as u16);
     link(&mut two, 3, 4, 2, 2);
     link(&mut two, 13, 14, 1, 1);
     all_calls(&mut two);
