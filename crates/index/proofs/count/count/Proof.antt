@@ -19,8 +19,9 @@ root-region-requires c κs = search needs
 
 find-hits-requires : tie.Need-find-hits-requires
 find-hits-requires c κs =
-    let t = pool-taken _ (c .before .before .before .before .capacity .ensures) (c .before .before .before .if1 .left) in
-    (t .few, t .long, refl, subst OneSided (sym (c .before .before .root-region .ensures)) all-one-sided)
+    let tested = c .before .before .before in
+    let t = pool-taken _ (tested .before .capacity .ensures) (tested .if1 .left) in
+    record { sized = t .sized; one-sided = subst OneSided (sym (c .before .before .root-region .ensures)) all-one-sided; room = refl }
 
 enum-known-live : tie.Need-enum-known-live
 enum-known-live c = search needs
