@@ -8,21 +8,20 @@ use mathlib.Core.List.{List, [], _∷_, map}
 use native.Mathlib.Omega.{arith}
 use native.Mathlib.Decide.{decLt}
 use lib.ListN.{length, take, getD, List·getD-eq-default}
-use Rattle.lists.specs.Tests.{filter}
 use Rattle.geometry.specs.Region.{Region}
 use Rattle.geometry.specs.Levels.{levels}
 use Rattle.geometry.specs.SearchRange.{rangeOfNumber}
-use Rattle.pool.specs.Capacity.{Sized, capacityOf}
+use Rattle.pool.specs.Capacity.{Sized}
 use Rattle.pool.proofs.CapacityLaws.{capacityOf-poolLength}
-use Rattle.adt.specs.Search.{Spot, broken, going, search}
+use Rattle.adt.specs.Search.{Spot, going, search}
 use Rattle.adt.specs.SearchMemory.{metIn, foundIn, searchIn, Encodes}
-use Rattle.adt.specs.Links.{Link, isHit, searchLinks, hitsAmong}
+use Rattle.adt.specs.Links.{Link, hitsAmong}
 use Rattle.adt.proofs.EnterSteps.{stands-as}
-use Rattle.adt.proofs.HitLaws.{IsCell, stands-within}
+use Rattle.adt.proofs.HitLaws.{stands-within}
 use Rattle.adt.proofs.SearchLinks.{search-going}
 use Rattle.index.specs.declared.find.NumberHit.the-variants.{Broken, Absent, At}
 use Rattle.calls.specs.Walks.{numberSearch, isBroken, hitsOf}
-use Rattle.index.specs.NumberSearch.{FirstAt, None, NumberFound}
+use Rattle.index.specs.NumberSearch.{NumberFound}
 
 head-take : (f : ℕ) (h : List ℕ) → ¬ (f ≡ 0) → 0 < length h → (others : List ℕ) × (take f h ≡ getD h 0 0 ∷ others)
 head-take zero h n p = absurd (n refl)

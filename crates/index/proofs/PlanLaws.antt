@@ -9,14 +9,14 @@
 --   hit-deep, hit-step, plan-removes, revoke-refused, revoke-done   what revoke stores and leaves
 --   start-refused, start-done
 -- Assumes nothing.
-use Prim.Native.Nat.{ℕ, zero, suc, _-_, _<_, _≤_}
-use mathlib.Core.Path.{_≡_, refl, sym, ap, subst, _∙_}
-use mathlib.Core.Bool.{Bool, true, false, not, cond, _||_, _&&_}
+use Prim.Native.Nat.{ℕ, _-_, _<_, _≤_}
+use mathlib.Core.Path.{_≡_, sym, ap, subst, _∙_}
+use mathlib.Core.Bool.{true, false}
 use mathlib.Core.List.{List, [], _∷_}
 use mathlib.Core.Option.{none, some}
 use native.Mathlib.Omega.{arith}
-use lib.Dec.{ltb, eqb, eqb·suc-zero}
-use lib.ListN.{length, getD}
+use lib.Dec.{eqb·suc-zero}
+use lib.ListN.{length}
 use borrow.Author.Tests.{lt-ltb, le-ltb, eq-eqb, ne-eqb}
 use Rattle.model.specs.declared.Fault.{Fault}
 use Rattle.model.specs.declared.Fault.the-variants.{BadPool, Reversed, ZeroNumber, UnknownKind, AlreadyLive, Full, NotLive, BrokenLinks}
@@ -31,8 +31,8 @@ use Rattle.geometry.specs.Point.{pointOf}
 use Rattle.pool.specs.Capacity.{Sized, capacityOf, wrongLength, wrongPool}
 use Rattle.pool.specs.Fresh.{freshPool}
 use Rattle.pool.proofs.CapacityLaws.{capacityOf-poolLength}
-use Rattle.adt.specs.Search.{Spot, broken, going}
-use Rattle.adt.specs.Insert.{blankAt, descendFrom, descend, freeHead, nextFree, freeBroken, inserted}
+use Rattle.adt.specs.Search.{broken}
+use Rattle.adt.specs.Insert.{blankAt, descend, freeHead, nextFree, freeBroken, inserted}
 use Rattle.adt.specs.Insert as insert
 use Rattle.adt.specs.Remove.{terminal, follow, terminalFrom, removed}
 use Rattle.adt.specs.Remove as remove
@@ -43,13 +43,13 @@ use Rattle.index.specs.declared.find.NumberHit.the-variants as hit
 use Rattle.index.specs.declared.grant.Insertion.{Insertion}
 use Rattle.index.specs.declared.grant.Insertion.the-variants as insertion
 use Rattle.index.specs.declared.revoke.Removal.the-variants as removal
-use Rattle.calls.specs.Walks.{numberSearch, isBroken, hitsOf, insertionWalk, removalOf}
+use Rattle.calls.specs.Walks.{numberSearch, hitsOf, insertionWalk, removalOf}
 use Rattle.calls.specs.Causes.{numberLive, noFreeCell, grantBroken, revokeBroken}
 use Rattle.calls.specs.Order.{startOrder, grantOrder, revokeOrder}
-use Rattle.calls.specs.Calls.{startCall, grantCall, revokeCall, grantLine, revokeLine}
+use Rattle.calls.specs.Calls.{startCall, grantCall, revokeCall, grantLine}
 use Rattle.calls.specs.Contract.{Leaves}
-use Rattle.index.specs.NumberSearch.{FirstAt, NumberFound}
-use Rattle.index.specs.Plans.{slotOrder, added, Insertable, InsertionPlanned, SlotPlanned, GrantPlanned, Found, RemovalPlanned}
+use Rattle.index.specs.NumberSearch.{NumberFound}
+use Rattle.index.specs.Plans.{slotOrder, added, InsertionPlanned, SlotPlanned, GrantPlanned, RemovalPlanned}
 
 -- a plan, of an equal request
 pub planned-as : (w : List ℕ) {r r′ : Request} → r ≡ r′ → {p p′ : Insertion} → p ≡ p′ → SlotPlanned w r p → SlotPlanned w r′ p′

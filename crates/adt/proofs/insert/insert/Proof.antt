@@ -2,7 +2,7 @@
 use Rattle.pool.proofs.CellLaws.{length-withCell}
 use lib.Seq.{lt-length-set}
 use lib.ListN.{length}
-use mathlib.Core.Path.{_≡_, ap, _∙_}
+use mathlib.Core.Path.{ap, _∙_}
 use native.Mathlib.Omega.{arith}
 use Rattle.adt.specs.Insert.{inserted}
 use borrow.Author.Needs.{needs}

@@ -2,7 +2,7 @@
 use Rattle.adt.proofs.DescentSteps.{length-freed, remove-terminal, remove-other}
 use lib.ListN.{length, length-set}
 use native.Mathlib.Omega.{arith}
-use mathlib.Core.Path.{_≡_, sym, ap, _∙_}
+use mathlib.Core.Path.{ap}
 use borrow.Author.Needs.{needs}
 use Rattle.adt.proofs.remove.remove.Statement.{statement}
 use Rattle.adt.proofs.remove.remove.Tie as tie

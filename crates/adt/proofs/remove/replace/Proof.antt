@@ -2,7 +2,7 @@
 use Rattle.adt.proofs.DescentSteps.{replace-steps}
 use lib.ListN.{length, length-set}
 use native.Mathlib.Omega.{arith}
-use mathlib.Core.Path.{_≡_, sym, ap, _∙_}
+use mathlib.Core.Path.{ap}
 use borrow.Author.Needs.{needs}
 use Rattle.adt.proofs.remove.replace.Statement.{statement}
 use Rattle.adt.proofs.remove.replace.Tie as tie

@@ -35,7 +35,8 @@ returns-2 c =
     let ranged = searched .before .before .before in
     let tested = ranged .before in
     let start = tested .before .before .before in
-    count-broken (start .args .pool .now) (tested .before .capacity .ensures) (tested .if1 .left) (ranged .root-region .ensures) _ (searched .find-hits .ensures) (c .enum-told .given .1)
+    count-broken (start .args .pool .now) (tested .before .capacity .ensures) (tested .if1 .left)
+    (ranged .root-region .ensures) _ (searched .find-hits .ensures) (c .enum-told .given .1)
 
 sub-t13 : tie.Need-sub-t13
 sub-t13 c =
@@ -43,7 +44,8 @@ sub-t13 c =
     let ranged = searched .before .before .before in
     let tested = ranged .before in
     let start = tested .before .before .before in
-    count-few (start .args .pool .now) (tested .before .capacity .ensures) (tested .if1 .left) (ranged .root-region .ensures) _ (searched .find-hits .ensures) (c .before .live .given .1)
+    count-few (start .args .pool .now) (tested .before .capacity .ensures) (tested .if1 .left)
+    (ranged .root-region .ensures) _ (searched .find-hits .ensures) (c .before .live .given .1)
 
 returns-3 : tie.Need-returns-3
 returns-3 c =
@@ -51,7 +53,8 @@ returns-3 c =
     let ranged = searched .before .before .before in
     let tested = ranged .before in
     let start = tested .before .before .before in
-    count-done (start .args .pool .now) (tested .before .capacity .ensures) (tested .if1 .left) (ranged .root-region .ensures) _ (searched .find-hits .ensures) (c .before .live .given .1)
+    count-done (start .args .pool .now) (tested .before .capacity .ensures) (tested .if1 .left)
+    (ranged .root-region .ensures) _ (searched .find-hits .ensures) (c .before .live .given .1)
 
 pub count-spec : {M : Type 1} → statement M
 count-spec =

@@ -41,8 +41,9 @@ returns-2 c =
     let searched = c .before .before in
     let ranged = searched .before .before .before in
     let tested = ranged .before .before in
-    let start = tested .before .before .before in
-    decide-broken (start .args .pool .now) (start .args .staff) (start .args .door) (start .args .quarter) (tested .before .capacity .ensures) (tested .if1 .left) (ranged .before .point-box .ensures) (ranged .range-of-box .ensures) _ (searched .find-hits .ensures) (c .enum-told .given .1)
+    let a = tested .before .before .before .args in
+    decide-broken (a .pool .now) (a .staff) (a .door) (a .quarter) (tested .before .capacity .ensures) (tested .if1 .left)
+    (ranged .before .point-box .ensures) (ranged .range-of-box .ensures) _ (searched .find-hits .ensures) (c .enum-told .given .1)
 
 decide-among-requires : tie.Need-decide-among-requires
 decide-among-requires c κs =
@@ -55,8 +56,9 @@ returns-3 c =
     let searched = found .before .before in
     let ranged = searched .before .before .before in
     let tested = ranged .before .before in
-    let start = tested .before .before .before in
-    decide-done (start .args .pool .now) (start .args .staff) (start .args .door) (start .args .quarter) (tested .before .capacity .ensures) (tested .if1 .left) (ranged .before .point-box .ensures) (ranged .range-of-box .ensures) _ (searched .find-hits .ensures) (found .found .given .1) (c .decide-among .ensures)
+    let a = tested .before .before .before .args in
+    decide-done (a .pool .now) (a .staff) (a .door) (a .quarter) (tested .before .capacity .ensures) (tested .if1 .left)
+    (ranged .before .point-box .ensures) (ranged .range-of-box .ensures) _ (searched .find-hits .ensures) (found .found .given .1) (c .decide-among .ensures)
 
 pub decide-spec : {M : Type 1} → statement M
 decide-spec =

@@ -3,7 +3,7 @@ use Rattle.index.proofs.PlanLaws.{grant-refused, grant-done, plan-inser
 use Rattle.model.specs.Call.{request}
 use Rattle.index.specs.Plans.{GrantPlanned}
 use Rattle.adt.specs.Insert.{inserted}
-use mathlib.Core.Path.{_≡_, subst, ap, _∙_}
+use mathlib.Core.Path.{subst, ap, _∙_}
 use borrow.Author.Needs.{needs}
 use Rattle.index.proofs.grant.grant.Statement.{statement}
 use Rattle.index.proofs.grant.grant.Tie as tie

@@ -3,7 +3,7 @@ use Rattle.model.specs.Call.{request}
 use Rattle.pool.specs.Layout.{fieldOf}
 use Rattle.pool.specs.declared.Field.the-variants.{Left}
 use native.Mathlib.Omega.{arith}
-use mathlib.Core.Path.{_≡_, sym, ap, _∙_}
+use mathlib.Core.Path.{ap, _∙_}
 use Prim.Native.Nat.{ℕ}
 use Rattle.index.proofs.PlanLaws.{free-above, free-none, free-next-above, free-planned}
 use borrow.Author.Needs.{needs}

@@ -3,7 +3,7 @@ use Rattle.model.specs.Call.{request}
 use Rattle.index.proofs.RefusalSteps.{pool-refused, pool-taken}
 use Rattle.index.proofs.PlanLaws.{grant-pool, grant-zero, grant-kind, grant-reversed, grant-broken, grant-live, grant-absent}
 use Rattle.index.specs.NumberSearch.{NumberFound}
-use mathlib.Core.Path.{_≡_, sym, subst, _∙_}
+use mathlib.Core.Path.{sym, subst, _∙_}
 use borrow.Author.Needs.{needs}
 use Rattle.index.proofs.grant.plan_insertion.Statement.{statement}
 use Rattle.index.proofs.grant.plan_insertion.Tie as tie

@@ -27,7 +27,8 @@ plan-free-requires c κs =
     let start = asked .before .before in
     let a = start .args in
     let r = request (a .number) (a .rank) (a .kind) (a .bounds) in
-    let way = slot-descent (a .pool .now) r (asked .requested .ensures) (found .before .point-of .ensures) (found .find-slot .ensures) (c .before .slot .given .1) in
+    let point = found .before .point-of .ensures in
+    let way = slot-descent (a .pool .now) r (asked .requested .ensures) point (found .find-slot .ensures) (c .before .slot .given .1) in
     (start .pre, way)
 
 returns : tie.Need-returns
@@ -36,7 +37,8 @@ returns c =
     let asked = found .before .before in
     let a = asked .before .before .args in
     let r = request (a .number) (a .rank) (a .kind) (a .bounds) in
-    let way = slot-descent (a .pool .now) r (asked .requested .ensures) (found .before .point-of .ensures) (found .find-slot .ensures) (c .enum-told .given .1) in
+    let point = found .before .point-of .ensures in
+    let way = slot-descent (a .pool .now) r (asked .requested .ensures) point (found .find-slot .ensures) (c .enum-told .given .1) in
     slot-broken (a .pool .now) r way
 
 returns-2 : tie.Need-returns-2

@@ -3,7 +3,7 @@ use Rattle.index.proofs.RefusalSteps.{pool-refused, pool-taken}
 use Rattle.index.proofs.PlanLaws.{hit-deep, hit-step, revoke-pool, revoke-zero, revoke-broken, revoke-absent, revoke-removal-broken, revoke-planned}
 use Rattle.index.specs.NumberSearch.{NumberFound}
 use Rattle.adt.specs.WalkResult.{removalWalkOf}
-use mathlib.Core.Path.{_≡_, sym, ap, subst, _∙_}
+use mathlib.Core.Path.{sym, ap, subst, _∙_}
 use borrow.Author.Needs.{needs}
 use Rattle.index.proofs.revoke.plan_removal.Statement.{statement}
 use Rattle.index.proofs.revoke.plan_removal.Tie as tie

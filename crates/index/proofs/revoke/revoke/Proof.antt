@@ -37,9 +37,10 @@ same-length-2 c = search needs
 
 returns-2 : tie.Need-returns-2
 returns-2 c =
-    let planned = c .before .before .before .before .before .before .before in
+    let told = c .before .before .before .before .before in
+    let planned = told .before .before in
     let a = planned .before .before .before .args in
-    let at = subst (RemovalPlanned (a .pool .now) (a .number)) (c .before .before .before .before .before .removal2 .given .1) (planned .plan-removal .ensures) in
+    let at = subst (RemovalPlanned (a .pool .now) (a .number)) (told .removal2 .given .1) (planned .plan-removal .ensures) in
     revoke-done (a .pool .now) _ _ _ _ _ at (c .before .before .remove .ensures)
 
 pub revoke-spec : {M : Type 1} → statement M

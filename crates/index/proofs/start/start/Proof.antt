@@ -1,7 +1,6 @@
 -- `start::start` meets its contract. Assumes nothing.
 use Rattle.index.proofs.RefusalSteps.{length-refused, length-taken}
 use Rattle.index.proofs.PlanLaws.{start-refused, start-done}
-use native.Mathlib.Omega.{arith}
 use borrow.Author.Needs.{needs}
 use Rattle.index.proofs.start.start.Statement.{statement}
 use Rattle.index.proofs.start.start.Tie as tie

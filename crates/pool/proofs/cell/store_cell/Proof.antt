@@ -4,7 +4,7 @@ use Rattle.pool.specs.Layout.{place}
 use lib.Seq.{sets}
 use lib.ListN.{length, take, length-set}
 use native.Mathlib.Omega.{arith}
-use mathlib.Core.Path.{_≡_, refl, sym, ap, _∙_}
+use mathlib.Core.Path.{_≡_, refl}
 use Prim.Native.Nat.{_+_, _-_, _≤_}
 use borrow.Author.Needs.{needs}
 use Rattle.pool.proofs.cell.store_cell.Statement.{statement}

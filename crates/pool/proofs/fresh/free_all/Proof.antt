@@ -4,12 +4,11 @@ use Rattle.pool.proofs.CellLaws.{length-withCell}
 use Rattle.pool.specs.Fresh.{freeCells}
 use Rattle.pool.specs.Capacity.{poolLength}
 use Rattle.pool.specs.Layout.{headerWords}
-use lib.Seq.{drop-length}
 use lib.ListN.{length, take, drop}
 use lib.Dec.{eqb}
 use native.Mathlib.Omega.{arith}
 use mathlib.Core.Bool.{cond}
-use mathlib.Core.Path.{_≡_, refl, sym, ap, _∙_}
+use mathlib.Core.Path.{_≡_, refl, ap, _∙_}
 use Prim.Native.Nat.{suc, _-_, _≤_}
 use borrow.Author.Needs.{needs}
 use Rattle.pool.proofs.fresh.free_all.Statement.{statement}

@@ -3,7 +3,7 @@ use Rattle.pool.proofs.FreshSteps.{fresh-whole, header-stored}
 use Rattle.pool.proofs.FreshLaws.{length-freshPool}
 use lib.ListN.{length, length-set}
 use native.Mathlib.Omega.{arith}
-use mathlib.Core.Path.{_≡_, sym, ap, _∙_}
+use mathlib.Core.Path.{sym, ap, _∙_}
 use borrow.Author.Needs.{needs}
 use Rattle.pool.proofs.fresh.make_fresh.Statement.{statement}
 use Rattle.pool.proofs.fresh.make_fresh.Tie as tie
