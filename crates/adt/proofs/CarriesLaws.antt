@@ -19,7 +19,8 @@ use Rattle.adt.proofs.Linked.{Linked, linked-upto}
 use Rattle.adt.proofs.InsertLaws.{Inserted}
 use Rattle.adt.proofs.RemoveLaws.{Removed}
 
-pub carries-same : (w v : List ℕ) (c k : ℕ) (g : Grant) → 0 < k → k ≤ c → length w ≡ poolLength c → length v ≡ poolLength c → SameGrantWords w v k → Carries w k g → Carries v k g
+pub carries-same : (w v : List ℕ) (c k : ℕ) (g : Grant) → 0 < k → k ≤ c → length w ≡ poolLength c → length v ≡ poolLength c → SameGrantWords w v k
+    → Carries w k g → Carries v k g
 carries-same w v c k g pos le wide long same e = slice-fieldWords v c k pos le long ∙ fieldWords-same w v k same ∙ sym (slice-fieldWords w c k pos le wide) ∙ e
 
 module _ {w v : List ℕ} {c : ℕ} {t : Tree} {k : ℕ} {ks : List ℕ} {g : Grant} (h : Linked w c t (k ∷ ks)) (i : Inserted w v c t k ks g) where
@@ -31,7 +32,9 @@ module _ {w v : List ℕ} {c : ℕ} {t : Tree} {k : ℕ} {ks : List ℕ} {g : Gr
       ∙ fieldWords-withCell w c k 0 0 g (b .0) (b .1) (h .long)
 
   pub carries-inserted-other : (j : ℕ) (f : Grant) → List·Memᴰ j (cellsOf t) → Carries w j f → Carries v j f
-  carries-inserted-other j f m = let b = linked-upto h j (Memᴰ·append-left (k ∷ ks) m) in carries-same w v c j f (b .0) (b .1) (h .long) (i .linked .long) (i .other-words j m)
+  carries-inserted-other j f m =
+      let b = linked-upto h j (Memᴰ·append-left (k ∷ ks) m) in
+      carries-same w v c j f (b .0) (b .1) (h .long) (i .linked .long) (i .other-words j m)
 
 module _ {w v : List ℕ} {c : ℕ} {t : Tree} {k : ℕ} {ks : List ℕ} (h : Linked w c t ks) (r : Removed w v c t k ks) where
   pub carries-removed : (j : ℕ) (f : Grant) → List·Memᴰ j (cellsOf (r .tree)) → Carries w j f → Carries v j f

@@ -61,7 +61,8 @@ either P x y Right = y
 
 module _ (w : List ℕ) (c : ℕ) (p : List ℕ) where
   node-leads : {n at k met : ℕ} {g : Region} {l r : Tree} → getD w at 0 ≡ k → 0 < k → k ≤ c → met < c
-      → ((s : Side) → sideOf g (axisOf (levels - suc n)) (getD p (axisOf (levels - suc n)) 0) ≡ s → LeadsFrom w c p n (linkPlace k s) (half s g (axisOf (levels - suc n))) (suc met) (child s l r))
+      → ((s : Side) → sideOf g (axisOf (levels - suc n)) (getD p (axisOf (levels - suc n)) 0) ≡ s
+      → LeadsFrom w c p n (linkPlace k s) (half s g (axisOf (levels - suc n))) (suc met) (child s l r))
       → LeadsFrom w c p (suc n) at g met (node k l r)
   unfolding regionIn
   node-leads {n} {at} {k} {met} {g} is pos le lt children =
@@ -90,8 +91,10 @@ module _ (w : List ℕ) (c : ℕ) (p : List ℕ) where
       let on = inside-half g a v lt p i in
       node-leads {l = l} {r = r} is pos le (omega arith)
       (either (λ s. sideOf g a (getD p a 0) ≡ s → LeadsFrom w c p n (linkPlace k s) (half s g a) (suc met) (child s l r))
-      (λ e. leads (linkPlace k Left) (suc met) refl x (half-shape Left g a v lt) (half-wide Left v f) (rw e at on) (λ z m. d z (child-cells Left k l r z m)) (omega arith))
-      (λ e. leads (linkPlace k Right) (suc met) refl y (half-shape Right g a v lt) (half-wide Right v f) (rw e at on) (λ z m. d z (child-cells Right k l r z m)) (omega arith)))
+      (λ e. leads (linkPlace k Left) (suc met) refl x (half-shape Left g a v lt) (half-wide Left v f) (rw e at on)
+      (λ z m. d z (child-cells Left k l r z m)) (omega arith))
+      (λ e. leads (linkPlace k Right) (suc met) refl y (half-shape Right g a v lt) (half-wide Right v f) (rw e at on)
+      (λ z m. d z (child-cells Right k l r z m)) (omega arith)))
 
 pub record Leads (w p : List ℕ) (t : Tree) : Type 0 where
   pub link : ℕ
@@ -101,7 +104,8 @@ pub record Leads (w p : List ℕ) (t : Tree) : Type 0 where
   pub holds : inside (regionIn part rootRegion) p ≡ true
   pub way : descend w p ≡ blankAt link
 
-pub descend-leads : {w : List ℕ} {c : ℕ} {t : Tree} (p : List ℕ) → Spells w c (suc levels) rootRegion (getD w rootPlace 0) t → Distinct (cellsOf t) → capacityOf w ≡ c
+pub descend-leads : {w : List ℕ} {c : ℕ} {t : Tree} (p : List ℕ) → Spells w c (suc levels) rootRegion (getD w rootPlace 0) t → Distinct (cellsOf t)
+    → capacityOf w ≡ c
     → inside rootRegion p ≡ true → Apart w p t → Leads w p t
 unfolding descend
 descend-leads {w} {c} p s d e i apart =

@@ -5,7 +5,7 @@
 --   replace-steps, remove-terminal, remove-other, length-freed          of `replaced`, `removed` and `freed`
 -- Assumes nothing.
 use Prim.Native.Nat.{ℕ, zero, suc, _+_, _-_, _<_, _≤_}
-use mathlib.Core.Path.{_≡_, refl, sym, ap, _∙_}
+use mathlib.Core.Path.{_≡_, refl, _∙_}
 use mathlib.Core.Bool.{cond, _&&_}
 use mathlib.Core.List.{List}
 use native.Mathlib.Numerals.{add-one, sub-one}
@@ -24,7 +24,7 @@ use Rattle.pool.proofs.CellLaws.{length-withCell}
 use Rattle.adt.specs.Node.{linkPlace}
 use Rattle.adt.specs.Insert.{InsertionWalk, blankAt, descendFrom}
 use Rattle.adt.specs.Insert as insert
-use Rattle.adt.specs.Remove.{RemovalWalk, terminal, nextLink, follow, replaced, unlinked, freed, removed}
+use Rattle.adt.specs.Remove.{terminal, nextLink, follow, replaced, unlinked, freed, removed}
 use Rattle.adt.specs.Remove as remove
 
 module _ (w : List ℕ) (c : ℕ) (p : List ℕ) (n link : ℕ) (g : Region) (met : ℕ) where
@@ -110,7 +110,8 @@ module _ (w : List ℕ) (k left : ℕ) (el : left ≡ linkPlace k Left) where
   next-left n = rw (← el, ne-eqb (getD w left 0) 0 n)
 
 -- the stores of a removal, one after the other
-pub replace-steps : (w : List ℕ) (k link leaf cut : ℕ) {l r : ℕ} {v u : List ℕ} → l ≡ fieldOf (set w cut 0) k field.Left → r ≡ fieldOf (set w cut 0) k field.Right
+pub replace-steps : (w : List ℕ) (k link leaf cut : ℕ) {l r : ℕ} {v u : List ℕ} → l ≡ fieldOf (set w cut 0) k field.Left
+    → r ≡ fieldOf (set w cut 0) k field.Right
     → v ≡ set (set w cut 0) (place leaf field.Left) l → u ≡ set v (place leaf field.Right) r → set u link leaf ≡ replaced w k link leaf cut
 unfolding replaced fieldOf
 replace-steps w k link leaf cut el er ev eu = rw (eu, ev, el, er)
@@ -119,7 +120,8 @@ pub remove-terminal : (w : List ℕ) (k link leaf cut : ℕ) {v : List ℕ} → 
 unfolding removed unlinked
 remove-terminal w k link leaf cut e f = f ∙ rw (eq-eqb leaf k e)
 
-pub remove-other : (w : List ℕ) (k link leaf cut : ℕ) {u v : List ℕ} → ¬ (leaf ≡ k) → u ≡ replaced w k link leaf cut → v ≡ freed u k → v ≡ removed w k link leaf cut
+pub remove-other : (w : List ℕ) (k link leaf cut : ℕ) {u v : List ℕ} → ¬ (leaf ≡ k) → u ≡ replaced w k link leaf cut → v ≡ freed u k
+    → v ≡ removed w k link leaf cut
 unfolding removed unlinked
 remove-other w k link leaf cut n e f = f ∙ rw (e, ne-eqb leaf k n)
 

@@ -47,11 +47,13 @@ module _ (w : List ℕ) (c : ℕ) (q : Region) where
       enter-deep z = rw (z, ← e, ne-eqb k 0 nz)
 
       module _ (some : ¬ (n ≡ 0)) where
-        enter-cases : enter w c q n link g now ≡ cond (meets g q) (cond (leb k c) (visitBy w c q (enter w c q (n - 1)) (record { level = levels - (n - 1); link = link }) k g now) broken) now
+        enter-cases : enter w c q n link g now
+            ≡ cond (meets g q) (cond (leb k c) (visitBy w c q (enter w c q (n - 1)) (record { level = levels - (n - 1); link = link }) k g now) broken) now
         unfolding enter
         enter-cases = go n some
           where
-            go : (n : ℕ) → ¬ (n ≡ 0) → enter w c q n link g now ≡ cond (meets g q) (cond (leb k c) (visitBy w c q (enter w c q (n - 1)) (record { level = levels - (n - 1); link = link }) k g now) broken) now
+            go : (n : ℕ) → ¬ (n ≡ 0) → enter w c q n link g now
+                ≡ cond (meets g q) (cond (leb k c) (visitBy w c q (enter w c q (n - 1)) (record { level = levels - (n - 1); link = link }) k g now) broken) now
             go zero z = absurd (z refl)
             go (suc n) z = rw (← e, ne-eqb k 0 nz, sub-one (suc n))
 
@@ -120,7 +122,8 @@ module _ (w : List ℕ) (c : ℕ) (q : Region) where
         → Encodes c r h t (visitBy w c q (enter w c q n) here k g s)
     visit-in e {r} {h} {t} d = subst (λ (x : Region). Encodes c r h t (visitBy w c q (enter w c q n) here k x s)) e d
 
-    pub visit-cut : {r : Bool} {h t : List ℕ} → Encodes c r h t (meet w c q here k s) → r ≡ false → Encodes c false h t (visitBy w c q (enter w c q n) here k g s)
+    pub visit-cut : {r : Bool} {h t : List ℕ} → Encodes c r h t (meet w c q here k s) → r ≡ false
+        → Encodes c false h t (visitBy w c q (enter w c q n) here k g s)
     visit-cut d e = record { counted = d .counted; state = steps (stands-as d e) (sym (enter-broken n _ _)) (sym (enter-broken n _ _)) }
 
     module _ (shape : Shape g) {a from to : ℕ} (ea : a ≡ axisOf (here .level)) (lt : a < axes) (ef : from ≡ low g a) (et : to ≡ high g a)

@@ -16,7 +16,8 @@ use mathlib.Core.List.{List, [], _∷_, _++_, append-nil, append-assoc, List·Me
 use native.Mathlib.Omega.{arith}
 use lib.ListN.{getD}
 use Rattle.lists.proofs.DistinctLaws.{Distinct, Upto, distinct-left, distinct-right, distinct-apart}
-use Rattle.lists.proofs.PermLaws.{Put, put-first, put-later, put-append-left, put-append-right, put-seam, put-perm, Perm, perm-more, perm-refl, perm-sym, perm-trans, perm-append, perm-swap}
+use Rattle.lists.proofs.PermLaws.{Put, put-first, put-later, put-append-left, put-append-right, put-seam, put-perm}
+use Rattle.lists.proofs.PermLaws.{Perm, perm-more, perm-refl, perm-sym, perm-trans, perm-append, perm-swap}
 use Rattle.geometry.specs.declared.Side.{Side}
 use Rattle.geometry.specs.declared.Side.the-variants.{Left, Right}
 use Rattle.geometry.specs.Axis.{axisOf}
@@ -103,7 +104,8 @@ pub part-child-link : {n m link : ℕ} {u : Tree} (s : Side) (k : ℕ) (l r : Tr
 part-child-link s k l r p = link-child s k (outside p) (cellsOf (child (other s) l r)) (part-link p)
 
 -- a cell that is not outside of it is away from the place
-pub part-away : {c n at m link : ℕ} {t u : Tree} (p : Part n at t m link u) (k : ℕ) → Away at k → 0 < k → Upto c (outside p) → ¬ List·Memᴰ k (outside p) → Away link k
+pub part-away : {c n at m link : ℕ} {t u : Tree} (p : Part n at t m link u) (k : ℕ) → Away at k → 0 < k → Upto c (outside p) → ¬ List·Memᴰ k (outside p)
+    → Away link k
 part-away {c} {at = at} {link = link} p k away pos upto n = go (part-link p)
   where
     go : (link ≡ at) ⊎ LinkOf (outside p) link → Away link k
@@ -187,7 +189,9 @@ module _ {c link : ℕ} (s : Side) (k : ℕ) (below beside : List ℕ) (distinct
       pos = upto j (Memᴰ·append-right below (List·Memᴰ·tail m)) .0
 
       go : (link ≡ linkPlace k s) ⊎ LinkOf below link → Away link j
-      go (inl e) = λ z q. distinct-apart (k ∷ []) (distinct-right below distinct) k (List·Memᴰ·head refl) (Memᴰ·cast (sym (link-injective j k z s pos pos-first (q ∙ e) .0)) m)
+      go (inl e) = λ z q.
+          let same = link-injective j k z s pos pos-first (q ∙ e) .0 in
+          distinct-apart (k ∷ []) (distinct-right below distinct) k (List·Memᴰ·head refl) (Memᴰ·cast (sym same) m)
       go (inr h) = link-away j pos upto-below h (λ i. distinct-apart below distinct j i (List·Memᴰ·tail m))
 
   opposite-away : linkPlace k (other s) ≢ link
@@ -201,7 +205,8 @@ module _ {c link : ℕ} (s : Side) (k : ℕ) (below beside : List ℕ) (distinct
 kept-proper : {w v : List ℕ} {c at link : ℕ} {ks : List ℕ} → Kept w v c at link ks → LinkOf ks link → at ≢ link
 kept-proper kept h e = kept .away (h .cell) (h .member) (h .side) (sym (e ∙ h .is))
 
-pub exchanged-spells : {w v : List ℕ} {c n at m link j : ℕ} {g : Region} {t u : Tree} (p : Part n at t m link u) (x : Tree) → getD w at 0 ≡ j → Spells w c n g j t
+pub exchanged-spells : {w v : List ℕ} {c n at m link j : ℕ} {g : Region} {t u : Tree} (p : Part n at t m link u) (x : Tree) → getD w at 0 ≡ j
+    → Spells w c n g j t
     → Kept w v c at link (outside p) → Spells v c m (regionIn p g) (getD v link 0) x → Spells v c n g (getD v at 0) (exchanged p x)
 unfolding regionIn exchanged outside
 exchanged-spells part-here x e sp kept new = new

@@ -34,7 +34,8 @@ data Next (w : List ℕ) (k : ℕ) (l r : Tree) : Type 0 where
 next-of : {w : List ℕ} {c n i j : ℕ} {g h : Region} {l r : Tree} (k : ℕ) → getD w (linkPlace k Left) 0 ≡ i → getD w (linkPlace k Right) 0 ≡ j
     → Spells w c n g i l → Spells w c n h j r → Next w k l r
 next-of {w} k e f spells-blank spells-blank = next-none refl refl (rw (eq-eqb (getD w (linkPlace k Left) 0) 0 e) f)
-next-of {w} k e f spells-blank (spells-node {k = j} {l = x} {r = y} pos le i a b) = next-child Right j x y refl (rw (eq-eqb (getD w (linkPlace k Left) 0) 0 e) refl)
+next-of {w} k e f spells-blank (spells-node {k = j} {l = x} {r = y} pos le i a b) =
+    next-child Right j x y refl (rw (eq-eqb (getD w (linkPlace k Left) 0) 0 e) refl)
 next-of {w} k e f (spells-node {k = j} {l = x} {r = y} pos le i a b) other =
     next-child Left j x y refl (rw (ne-eqb (getD w (linkPlace k Left) 0) 0 (omega arith)) refl)
 
@@ -75,7 +76,8 @@ module _ (w : List ℕ) (c : ℕ) where
 
 -- the same walk, from the cell before
 terminal-child : {w : List ℕ} {c n j met : ℕ} {x y : Tree} (k at : ℕ) (l r : Tree) (s : Side) → child s l r ≡ node j x y
-    → follow w c (suc n) k at met ≡ follow w c n j (linkPlace k s) (suc met) → Terminal w c n j (linkPlace k s) (suc met) x y → Terminal w c (suc n) k at met l r
+    → follow w c (suc n) k at met ≡ follow w c n j (linkPlace k s) (suc met) → Terminal w c n j (linkPlace k s) (suc met) x y
+    → Terminal w c (suc n) k at met l r
 terminal-child {n = n} k at l r s e f t =
     let part : Part (suc n) (linkPlace k s) (child s l r) (suc (t .below)) (t .leafAt) (node (t .leaf) blank blank) = rw e (t .part) in
     record { leaf = t .leaf; leafAt = t .leafAt; below = t .below; part = part-child s part; found = f ∙ t .found }
@@ -90,7 +92,8 @@ follow-terminal {w} {c} {l = l} {r = r} zero k at met sp few = go (next-of k ref
 follow-terminal {w} {c} {l = l} {r = r} (suc n) k at met sp few =
     go (λ s j x y i h. follow-terminal n j (linkPlace k s) (suc met)) (next-of k refl refl (spells-child Left sp) (spells-child Right sp))
   where
-    go : ((s : Side) (j : ℕ) (x y : Tree) (i : ℕ) (h : Region) → Spells w c (suc n) h i (node j x y) → suc met + size (node j x y) ≤ suc c → Terminal w c n j (linkPlace k s) (suc met) x y)
+    go : ((s : Side) (j : ℕ) (x y : Tree) (i : ℕ) (h : Region) → Spells w c (suc n) h i (node j x y)
+        → suc met + size (node j x y) ≤ suc c → Terminal w c n j (linkPlace k s) (suc met) x y)
         → Next w k l r → Terminal w c (suc n) k at met l r
     go ih (next-none e f i) = rw (e, f) (terminal-here (follow-none w c (suc n) k at met i))
     go ih (next-child s j x y e q) =

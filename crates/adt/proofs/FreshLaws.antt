@@ -25,7 +25,8 @@ chain-last : (c k n : ℕ) → 0 < k → k + n ≡ c → FreeChain (freshPool c)
 unfolding countFrom fieldOf
 chain-last c k zero pos e = chain-more {ks = []} pos (omega arith) (rw (left-freshPool c k pos (omega arith), eq-eqb k c (omega arith)) chain-end)
 chain-last c k (suc n) pos e =
-    chain-more {ks = countFrom (suc k) (suc n)} pos (omega arith) (rw (left-freshPool c k pos (omega arith), ne-eqb k c (omega arith)) (chain-last c (suc k) n (omega arith) (omega arith)))
+    chain-more {ks = countFrom (suc k) (suc n)} pos (omega arith)
+    (rw (left-freshPool c k pos (omega arith), ne-eqb k c (omega arith)) (chain-last c (suc k) n (omega arith) (omega arith)))
 
 pub chain-freshPool : (c : ℕ) → 1 ≤ c → FreeChain (freshPool c) c (freeHead (freshPool c)) (countFrom 1 c)
 chain-freshPool zero h = absurd (omega arith)

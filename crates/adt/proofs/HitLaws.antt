@@ -4,16 +4,17 @@
 --   stands-within     the same of the memory that stands for it, by the hit's place
 -- Assumes nothing.
 use Prim.Native.Nat.{ℕ, zero, suc, _<_, _≤_}
-use mathlib.Core.Path.{_≡_, refl, sym, ap, subst, _∙_}
+use mathlib.Core.Path.{_≡_, refl, sym, ap, subst}
 use mathlib.Core.Logic.{⊎-elim}
 use mathlib.Core.Bool.{Bool, true, false, cond, _||_}
-use mathlib.Core.List.{List, [], _∷_, _++_, map, List·Memᴰ, List·Memᴰ·head, List·Memᴰ·tail, List·Memᴰ·cases-cons, List·Memᴰ·append-cases, List·Memᴰ·not-nil, List·Memᴰ·eq-of-singleton}
+use mathlib.Core.List.{List, [], _∷_, map, List·Memᴰ}
+use mathlib.Core.List.{List·Memᴰ·head, List·Memᴰ·tail, List·Memᴰ·cases-cons, List·Memᴰ·append-cases, List·Memᴰ·not-nil, List·Memᴰ·eq-of-singleton}
 use native.Mathlib.Omega.{arith}
 use lib.Dec.{eqb, ltb}
-use lib.ListN.{length, take, getD, length-take}
+use lib.ListN.{length, take, getD}
 use lib.Seq.{getD-take, length-take-le}
 use borrow.Author.Tests.{eqb-false, ltb-false}
-use Rattle.lists.specs.Tests.{filter, any}
+use Rattle.lists.specs.Tests.{any}
 use Rattle.lists.proofs.TestLaws.{filter-mem}
 use Rattle.lists.proofs.ElementLaws.{mem-getD}
 use Rattle.geometry.specs.declared.Side.the-variants.{Left, Right}
@@ -23,8 +24,8 @@ use Rattle.geometry.specs.Region.{Region, half, meets}
 use Rattle.model.specs.Limits.{maxGrants}
 use Rattle.pool.specs.Capacity.{capacityOf}
 use Rattle.adt.specs.Node.{linkPlace}
-use Rattle.adt.specs.Search.{Spot, Search, broken, going, search}
-use Rattle.adt.specs.SearchMemory.{foundIn, searchIn, Encodes}
+use Rattle.adt.specs.Search.{Spot, going, search}
+use Rattle.adt.specs.SearchMemory.{foundIn, Encodes}
 use Rattle.adt.specs.Links.{Link, brokenBy, searchFrom, searchLinks, isHit, hitsAmong}
 use Rattle.adt.proofs.LinkLaws.{or-left, or-right}
 use Rattle.adt.proofs.SearchLinks.{search-going}
@@ -57,7 +58,8 @@ links-some w q (suc n) l at g f m =
     (List·Memᴰ·cases-cons (v .1))
 
 -- no link of an unbroken walk is above C
-unbroken-below : (c : ℕ) (links : List Link) → any (λ link. ltb c (link .to) || ltb levels (link .level)) links ≡ false → (f : Link) → List·Memᴰ f links → f .to ≤ c
+unbroken-below : (c : ℕ) (links : List Link) → any (λ link. ltb c (link .to) || ltb levels (link .level)) links ≡ false → (f : Link) → List·Memᴰ f links
+    → f .to ≤ c
 unfolding any
 unbroken-below c [] e f m = absurd (List·Memᴰ·not-nil m)
 unbroken-below c (x ∷ links) e f m =

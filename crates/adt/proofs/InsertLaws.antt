@@ -33,13 +33,15 @@ use Rattle.pool.specs.Layout.{capacityPlace, rootPlace, freePlace, offset, fiel
 use Rattle.pool.specs.Capacity.{poolLength, capacityOf}
 use Rattle.pool.specs.Cell.{grantAt, cellOf, withCell}
 use Rattle.pool.proofs.LayoutLaws.{field-set-header}
-use Rattle.pool.proofs.CellLaws.{SameGrantWords, length-withCell, field-withCell-same, field-withCell-other, header-withCell, grantAt-same, grantAt-withCell-same}
+use Rattle.pool.proofs.CellLaws.{SameGrantWords, length-withCell, field-withCell-same, field-withCell-other}
+use Rattle.pool.proofs.CellLaws.{header-withCell, grantAt-same, grantAt-withCell-same}
 use Rattle.adt.specs.Node.{linkField, linkPlace}
 use Rattle.adt.specs.Insert.{InsertionWalk, broken, blankAt, descendFrom, descend, freeHead, nextFree, inserted}
 use Rattle.adt.proofs.Spells.{Tree, blank, node, cellsOf, Spells, spells-blank, spells-node, FreeChain, chain-more}
 use Rattle.adt.proofs.TreeLaws.{child, spells-child}
 use Rattle.adt.proofs.PartLaws.{Part, part-here, part-child}
-use Rattle.adt.proofs.NodeLaws.{Away, root-away, other-away, Hook, hook-root, hook-link, hook-within, hook-header, hook-not-free, field-set-hook, hook-withCell}
+use Rattle.adt.proofs.NodeLaws.{Away, root-away, other-away, Hook, hook-root, hook-link}
+use Rattle.adt.proofs.NodeLaws.{hook-within, hook-header, hook-not-free, field-set-hook, hook-withCell}
 use Rattle.adt.proofs.FrameLaws.{chain-frame}
 use Rattle.adt.proofs.PartRegion.{regionIn}
 use Rattle.adt.proofs.ExchangeLaws.{exchanged, outside, exchanged-same, exchanged-put, part-outside, part-away, part-hook, Kept, exchanged-spells}
@@ -75,7 +77,8 @@ descendFrom-blank {w} {c} {link = link} p (suc n) at met (spells-node {g = g} {k
     let a = axisOf (levels - n) in
     let lt = axis-lt (levels - n) in
     let s = sideOf g a (getD p a 0) in
-    let on : cond (leb k c && ltb met c) (descendFrom w c p n (linkPlace k s) (half s g a) (suc met)) broken ≡ blankAt link = rw (e, ne-eqb k 0 (omega arith)) at found in
+    let on : cond (leb k c && ltb met c) (descendFrom w c p n (linkPlace k s) (half s g a) (suc met)) broken ≡ blankAt link =
+    rw (e, ne-eqb k 0 (omega arith)) at found in
     blank-child s
     (descendFrom-blank p n (linkPlace k s) (suc met) (spells-child s (spells-node pos le j x y)) refl (half-shape s g a shape lt) (inside-half g a shape lt p i)
     (descent-on (leb k c && ltb met c) (descendFrom w c p n (linkPlace k s) (half s g a) (suc met)) link on))

@@ -76,4 +76,5 @@ module _ {w v : List ℕ} {c : ℕ} {t : Tree} {k : ℕ} {ks : List ℕ} (r : Re
   live-removed =
       ap (filter (λ g. not (eqb (g .number) (grantAt w k .number)))) (sym (sortBy-perm number perm-grants distinct-more-numbers))
       ∙ filter-put _ (put-insertBy number (grantAt w k) (live v (r .tree))) (ap not (eq-eqb (grantAt w k .number) (grantAt w k .number) refl))
-      (λ g m. ap not (ne-eqb (g .number) (grantAt w k .number) (λ e. first-apart distinct-more-numbers (Memᴰ·cast (sym e) (number-mem (grantsOf v (r .tree)) g m)))))
+      (λ g m. ap not (ne-eqb (g .number) (grantAt w k .number)
+      (λ e. first-apart distinct-more-numbers (Memᴰ·cast (sym e) (number-mem (grantsOf v (r .tree)) g m)))))

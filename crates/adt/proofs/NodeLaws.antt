@@ -93,7 +93,8 @@ field-set-hook w k v f hook-root h = field-set-header w rootPlace k f v (omega a
 field-set-hook w k v f (hook-link {k = j} s pos le) h = field-set-other-field w k j (linkField s) f v (omega (arith, link-before-number s))
 
 -- a store of a cell leaves the places where others hang
-pub hook-withCell : {c at : ℕ} (w : List ℕ) (k : ℕ) (ws : List ℕ) → length ws ≡ cellWords → 0 < k → Hook c at → Away at k → getD (withCell w k ws) at 0 ≡ getD w at 0
+pub hook-withCell : {c at : ℕ} (w : List ℕ) (k : ℕ) (ws : List ℕ) → length ws ≡ cellWords → 0 < k → Hook c at → Away at k
+    → getD (withCell w k ws) at 0 ≡ getD w at 0
 unfolding fieldOf
 hook-withCell w k ws ten pk hook-root away = header-withCell w k ws ten rootPlace (omega arith)
 hook-withCell w k ws ten pk (hook-link {k = j} s pos le) away =

@@ -2,7 +2,6 @@
 --   Part n at t m link u      in the tree t, which hangs at the place `at` with n levels left below the parent, the part u hangs at the
 --                             place `link`, with m levels left
 --   part-levels, part-cells   a part has no more levels left than the tree, and its cells are the tree's
---   part-spells               the link of a part spells it
 --   HangsAt n at t k spot     in such a tree t the cell k hangs at the spot
 --   hangs-cell, hangs-below   it is a cell of t; its level says how many levels are left below it
 --   placedIn n at t           the tree's cells, each with its spot, in the order of cellsOf
@@ -13,18 +12,14 @@ use mathlib.Core.Logic.{_⊎_, inl, inr}
 use mathlib.Core.Path.{_≡_, refl, sym, ap, subst, _∙_}
 use mathlib.Core.List.{List, [], _∷_, _++_, map, map-append, List·Memᴰ, List·Memᴰ·head, List·Memᴰ·tail, List·Memᴰ·not-nil, List·Memᴰ·append-cases}
 use native.Mathlib.Omega.{arith}
-use lib.ListN.{getD}
 use Rattle.geometry.specs.declared.Side.{Side}
 use Rattle.geometry.specs.declared.Side.the-variants.{Left, Right}
-use Rattle.geometry.specs.Axis.{axisOf}
 use Rattle.geometry.specs.Levels.{levels}
 use Rattle.geometry.specs.Region.{Region}
-use Rattle.geometry.proofs.AxisLaws.{axis-lt}
-use Rattle.geometry.proofs.RegionLaws.{Shape, half-shape}
 use Rattle.adt.specs.Node.{linkPlace}
 use Rattle.adt.specs.Search.{Spot}
 use Rattle.adt.proofs.Spells.{Tree, blank, node, cellsOf, Spells, spells-blank, spells-node}
-use Rattle.adt.proofs.TreeLaws.{child, child-cells, spells-child}
+use Rattle.adt.proofs.TreeLaws.{child, child-cells}
 
 pub data Part : ℕ → ℕ → Tree → ℕ → ℕ → Tree → Type 0 where
   part-here : {n at : ℕ} {t : Tree} → Part n at t n at t
@@ -37,18 +32,6 @@ part-levels (part-child s p) = omega (arith, part-levels p)
 pub part-cells : {n at m link : ℕ} {t u : Tree} → Part n at t m link u → (j : ℕ) → List·Memᴰ j (cellsOf u) → List·Memᴰ j (cellsOf t)
 part-cells part-here j i = i
 part-cells (part-child {k = k} {l = l} {r = r} s p) j i = child-cells s k l r j (part-cells p j i)
-
--- of a part of a spelled tree: its region has the shape, and its link spells it there
-pub record PartSpells (w : List ℕ) (c m link : ℕ) (u : Tree) : Type 0 where
-  pub region : Region
-  pub shape : Shape region
-  pub spells : Spells w c m region (getD w link 0) u
-
-pub part-spells : {w : List ℕ} {c n at m link k : ℕ} {g : Region} {t u : Tree} → Part n at t m link u → getD w at 0 ≡ k → Shape g → Spells w c n g k t
-    → PartSpells w c m link u
-part-spells {g = g} part-here e v s = record { region = g; shape = v; spells = rw e s }
-part-spells {g = g} (part-child {n = n} s p) e v x =
-    part-spells p refl (half-shape s g (axisOf (levels - n)) v (axis-lt (levels - n))) (spells-child s x)
 
 pub record HangsAt (n at : ℕ) (t : Tree) (k : ℕ) (spot : Spot) : Type 0 where
   pub below : ℕ

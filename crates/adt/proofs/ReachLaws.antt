@@ -15,7 +15,8 @@ use Prim.Native.Nat.{ℕ, zero, suc, _+_, _*_, _-_, _<_, _≤_}
 use mathlib.Core.Logic.{_⊎_, inl, inr}
 use mathlib.Core.Path.{_≡_, refl, sym, ap, ap₂, _∙_}
 use mathlib.Core.Bool.{true}
-use mathlib.Core.List.{List, [], _∷_, _++_, map, map-append, map-map, List·Memᴰ, List·Memᴰ·head, List·Memᴰ·tail, List·Memᴰ·not-nil, List·Memᴰ·append-cases, Memᴰ·append-left, Memᴰ·append-right, Memᴰ·map, Memᴰ·of-map, Memᴰ·cast}
+use mathlib.Core.List.{List, [], _∷_, _++_, map, map-append, map-map, List·Memᴰ, List·Memᴰ·head}
+use mathlib.Core.List.{List·Memᴰ·tail, List·Memᴰ·not-nil, List·Memᴰ·append-cases, Memᴰ·append-left, Memᴰ·append-right, Memᴰ·map, Memᴰ·of-map, Memᴰ·cast}
 use native.Mathlib.Omega.{arith}
 use lib.ListN.{length, getD}
 use borrow.Author.Tests.{ne-eqb}
@@ -56,7 +57,15 @@ words-grant g h e =
       number = word 0 i;
       rank = both .0 i;
       kind = both .1 i;
-      bounds = record { «staff_from» = word 2 i; «staff_to» = word 3 i; «door_from» = word 4 i; «door_to» = word 5 i; «quarter_from» = word 6 i; «quarter_to» = word 7 i };
+      bounds =
+          record {
+            «staff_from» = word 2 i;
+            «staff_to» = word 3 i;
+            «door_from» = word 4 i;
+            «door_to» = word 5 i;
+            «quarter_from» = word 6 i;
+            «quarter_to» = word 7 i;
+          };
     }
 
 pub carries-one : (w : List ℕ) (k : ℕ) (g h : Grant) → Carries w k g → Carries w k h → g ≡ h
@@ -112,21 +121,25 @@ module _ (w : List ℕ) where
     paths-first p h (spells-node pos le i x y) = List·Memᴰ·head refl
 
     -- the paths of a node are its own, and those of its children
-    paths-child : (s : Side) (p : List Side) (k : ℕ) (l r : Tree) (q : List Side) → List·Memᴰ q (pathsIn (s ∷ p) (child s l r)) → List·Memᴰ q (pathsIn p (node k l r))
+    paths-child : (s : Side) (p : List Side) (k : ℕ) (l r : Tree) (q : List Side) → List·Memᴰ q (pathsIn (s ∷ p) (child s l r))
+        → List·Memᴰ q (pathsIn p (node k l r))
     unfolding pathsIn
     paths-child Left p k l r q m = List·Memᴰ·tail (Memᴰ·append-left (pathsIn (Right ∷ p) r) m)
     paths-child Right p k l r q m = List·Memᴰ·tail (Memᴰ·append-right (pathsIn (Left ∷ p) l) m)
 
     -- a path that goes on is one too, if it ends at a cell
-    paths-more : {m k : ℕ} {g : Region} {t : Tree} (p : List Side) → nodeAt w p ≡ k → Spells w c m g k t → (q : List Side) (s : Side) → List·Memᴰ q (pathsIn p t)
+    paths-more : {m k : ℕ} {g : Region} {t : Tree} (p : List Side) → nodeAt w p ≡ k → Spells w c m g k t → (q : List Side) (s : Side)
+        → List·Memᴰ q (pathsIn p t)
         → 0 < nodeAt w (s ∷ q) → List·Memᴰ (s ∷ q) (pathsIn p t)
     unfolding pathsIn
     paths-more p e spells-blank q s m h = absurd (List·Memᴰ·not-nil m)
     paths-more p e (spells-node {n = n} {g = g} {k = k} {l = l} {r = r} pos le i x y) q s (List·Memᴰ·head d) h =
         let first : 0 < getD w (linkPlace k s) 0 = rw (ap (λ (z : List Side). nodeAt w (s ∷ z)) d ∙ path-child p s e pos) at h in
-        Memᴰ·cast (ap (λ (z : List Side). s ∷ z) d) (paths-child s p k l r (s ∷ p) (paths-first (s ∷ p) first (spells-child s (spells-node {n = n} {g = g} pos le i x y))))
+        let own = paths-first (s ∷ p) first (spells-child s (spells-node {n = n} {g = g} pos le i x y)) in
+        Memᴰ·cast (ap (λ (z : List Side). s ∷ z) d) (paths-child s p k l r (s ∷ p) own)
     paths-more p e (spells-node {k = k} {l = l} {r = r} pos le i x y) q s (List·Memᴰ·tail m) h =
-        go (paths-more (Left ∷ p) (path-child p Left e pos) x q s) (paths-more (Right ∷ p) (path-child p Right e pos) y q s) (List·Memᴰ·append-cases (pathsIn (Left ∷ p) l) m)
+        go (paths-more (Left ∷ p) (path-child p Left e pos) x q s) (paths-more (Right ∷ p) (path-child p Right e pos) y q s)
+        (List·Memᴰ·append-cases (pathsIn (Left ∷ p) l) m)
       where
         go : (List·Memᴰ q (pathsIn (Left ∷ p) l) → 0 < nodeAt w (s ∷ q) → List·Memᴰ (s ∷ q) (pathsIn (Left ∷ p) l))
             → (List·Memᴰ q (pathsIn (Right ∷ p) r) → 0 < nodeAt w (s ∷ q) → List·Memᴰ (s ∷ q) (pathsIn (Right ∷ p) r))
@@ -192,7 +205,8 @@ module _ {w : List ℕ} {c : ℕ} {t : Tree} {ks : List ℕ} (h : Linked w c t k
   path-mem (fromRoot p) i = Memᴰ·append-left (map fromFree (countFrom 0 (length ks))) (Memᴰ·map fromRoot (root-mem p i))
   path-mem (fromFree n) i =
       let r = chain-path n in
-      Memᴰ·append-right (map fromRoot (pathsIn [] t)) (Memᴰ·map fromFree (mem-countFrom 0 (length ks) n (omega arith) (omega (arith, chain-some i (r .1), r .2))))
+      Memᴰ·append-right (map fromRoot (pathsIn [] t))
+      (Memᴰ·map fromFree (mem-countFrom 0 (length ks) n (omega arith) (omega (arith, chain-some i (r .1), r .2))))
 
   pub linked-within : (p : Path) → endOf w p ≤ c
   linked-within (fromRoot p) = spells-le (spells-path p .1)

@@ -49,7 +49,9 @@ module _ (x : List ℕ) {c k : ℕ} (long : length x ≡ poolLength c) (pos : 0 
 
   pub freed-capacity : getD (freed x k) capacityPlace 0 ≡ getD x capacityPlace 0
   unfolding freed
-  freed-capacity = getD-set-other (emptied x k) freePlace capacityPlace k 0 (omega arith) ∙ header-withCell x k (freeCell (freeHead x)) refl capacityPlace (omega arith)
+  freed-capacity =
+      getD-set-other (emptied x k) freePlace capacityPlace k 0 (omega arith)
+      ∙ header-withCell x k (freeCell (freeHead x)) refl capacityPlace (omega arith)
 
   pub freed-freeHead : freeHead (freed x k) ≡ k
   unfolding freed
@@ -65,7 +67,9 @@ module _ (x : List ℕ) {c k : ℕ} (long : length x ≡ poolLength c) (pos : 0 
   -- where others hang
   pub freed-other : {link : ℕ} → Hook c link → Away link k → getD (freed x k) link 0 ≡ getD x link 0
   unfolding freed
-  freed-other {link} other away = getD-set-other (emptied x k) freePlace link k 0 (hook-not-free other) ∙ hook-withCell x k (freeCell (freeHead x)) refl pos other away
+  freed-other {link} other away =
+      getD-set-other (emptied x k) freePlace link k 0 (hook-not-free other)
+      ∙ hook-withCell x k (freeCell (freeHead x)) refl pos other away
 
   -- others' grants
   pub freed-words : (j : ℕ) → 0 < j → ¬ (j ≡ k) → SameGrantWords x (freed x k) j
@@ -81,7 +85,8 @@ pub record Removed (w v : List ℕ) (c : ℕ) (t : Tree) (k : ℕ) (ks : List �
   pub other-words : (j : ℕ) → List·Memᴰ j (cellsOf tree) → SameGrantWords w v j
 
 -- the cell k, of the children l and r, at its place in the tree
-module _ {w : List ℕ} {c : ℕ} {t : Tree} {ks : List ℕ} {n at k : ℕ} {l r : Tree} (h : Linked w c t ks) (p : Part (suc levels) rootPlace t (suc n) at (node k l r)) where
+module _ {w : List ℕ} {c : ℕ} {t : Tree} {ks : List ℕ} {n at k : ℕ} {l r : Tree} (h : Linked w c t ks)
+    (p : Part (suc levels) rootPlace t (suc n) at (node k l r)) where
   part-cell : (j : ℕ) → List·Memᴰ j (cellsOf (node k l r)) → List·Memᴰ j (cellsOf t)
   part-cell j m = perm-mem (part-outside p) (Memᴰ·append-left (outside p) m)
 
@@ -152,7 +157,9 @@ module _ {w : List ℕ} {c : ℕ} {t : Tree} {ks : List ℕ} {n at k : ℕ} {l r
           let b = upto-outside j m in
           let e = outside-other j m in
           record {
-            links = λ s apart. freed-link j s (b .0) (b .1) e ∙ u .links j s (b .0) (b .1) (λ i. distinct-apart (cellsOf (node k l r)) distinct-parts j i m) apart;
+            links = λ s apart.
+                let out : ¬ List·Memᴰ j (cellsOf (node k l r)) = λ i. distinct-apart (cellsOf (node k l r)) distinct-parts j i m in
+                freed-link j s (b .0) (b .1) e ∙ u .links j s (b .0) (b .1) out apart;
             grant = grantAt-same w (freed x k) j (words-kept j (b .0) e);
           };
       top = λ apart. freed-other x long (bounds .0) (bounds .1) hook-root (root-away k) ∙ u .root apart;
@@ -178,7 +185,8 @@ module _ {w : List ℕ} {c : ℕ} {t : Tree} {ks : List ℕ} {n at k : ℕ} {l r
         (chain-frame
         (λ j m.
         let b = linked-upto h j (Memᴰ·append-right (cellsOf t) m) in
-        let out : (i : ℕ) → List·Memᴰ i (cellsOf (node k l r)) → ¬ (j ≡ i) = λ i o e. distinct-apart (cellsOf t) (linked-distinct h) i (part-cell i o) (Memᴰ·cast (sym e) m) in
+        let out : (i : ℕ) → List·Memᴰ i (cellsOf (node k l r)) → ¬ (j ≡ i) =
+        λ i o e. distinct-apart (cellsOf t) (linked-distinct h) i (part-cell i o) (Memᴰ·cast (sym e) m) in
         freed-link j Left (b .0) (b .1) (out k own) ∙ u .links j Left (b .0) (b .1) (λ i. out j i refl) (free-apart j m Left))
         (h .free))))
 
@@ -220,7 +228,8 @@ remove-keeps-linked {w} {c} {t} {k} {ks} {spot} {leaf} {leafAt} h hangs found =
     let f : ends .leafAt ≡ leafAt = cc in
     let sp = region-spells p refl (h .spells) in
     let first = spells-cell sp in
-    let q : Part (suc (hangs .below)) (spot .link) (node k (hangs .left) (hangs .right)) (suc (ends .below)) leafAt (node leaf blank blank) = rw (e, f) at (ends .part) in
+    let q : Part (suc (hangs .below)) (spot .link) (node k (hangs .left) (hangs .right)) (suc (ends .below)) leafAt (node leaf blank blank) =
+    rw (e, f) at (ends .part) in
     removed-all h p
     (unlinked-part q (h .long) (hook h p) (first .link) (region-shape p root-shape) (rw (first .link) at sp)
     (distinct-left (cellsOf (node k (hangs .left) (hangs .right))) (outside p) (distinct-parts h p)) (part-apart h p))

@@ -23,7 +23,7 @@ use Rattle.pool.specs.Layout.{rootPlace}
 use Rattle.pool.specs.Capacity.{capacityOf}
 use Rattle.adt.specs.Node.{linkPlace, pointAt}
 use Rattle.adt.specs.Search.{Spot, nowhere, Search, going, firstSpot, meet, visitBy, enter, search}
-use Rattle.adt.proofs.Spells.{Tree, blank, node, cellsOf, size, Spells, spells-blank, spells-node}
+use Rattle.adt.proofs.Spells.{Tree, node, cellsOf, size, Spells, spells-blank, spells-node}
 use Rattle.adt.proofs.TreeLaws.{cells-inside, size-few}
 use Rattle.adt.proofs.PartLaws.{HangsAt, hangs-cell, Placed, placedIn, placed-cells, placed-hangs}
 
@@ -61,7 +61,8 @@ module _ (w : List ℕ) (c : ℕ) (q : Region) where
       new = record { cell = k; spot = here }
 
       more : (found : List Placed)
-          → going (suc met) (map (λ p. p .cell) found ++ (k ∷ [])) (firstSpot (map (λ p. p .cell) found) (spotOf found) here) ≡ walked (suc met) (found ++ (new ∷ []))
+          → going (suc met) (map (λ p. p .cell) found ++ (k ∷ [])) (firstSpot (map (λ p. p .cell) found) (spotOf found) here)
+          ≡ walked (suc met) (found ++ (new ∷ []))
       more [] = refl
       more (x ∷ xs) = ap (λ (ks : List ℕ). going (suc met) (x .cell ∷ ks) (x .spot)) (sym (map-append (λ p. p .cell) xs (new ∷ [])))
 
@@ -72,7 +73,8 @@ module _ (w : List ℕ) (c : ℕ) (q : Region) where
       go false = rw append-nil
 
   -- a blank link, one to a region apart from the range, and one that is gone through
-  enter-blank : (n at : ℕ) (g : Region) (met : ℕ) (hits : List ℕ) (first : Spot) → getD w at 0 ≡ 0 → enter w c q n at g (going met hits first) ≡ going met hits first
+  enter-blank : (n at : ℕ) (g : Region) (met : ℕ) (hits : List ℕ) (first : Spot) → getD w at 0 ≡ 0
+      → enter w c q n at g (going met hits first) ≡ going met hits first
   unfolding enter
   enter-blank zero at g met hits first e = rw (eq-eqb (getD w at 0) 0 e)
   enter-blank (suc n) at g met hits first e = rw (eq-eqb (getD w at 0) 0 e)
@@ -90,7 +92,9 @@ module _ (w : List ℕ) (c : ℕ) (q : Region) where
 
   -- none of a tree's cells is a hit where its region is apart from the range
   apart-none : {n k : ℕ} {g : Region} {t : Tree} (at : ℕ) → Shape g → Spells w c n g k t → meets g q ≡ false → hitsAt w q n at t ≡ []
-  apart-none {n} {g = g} {t = t} at v s e = filter-none (isIn w q) (placedIn n at t) (λ p m. go p (cells-inside v s (p .cell) (hangs-cell (placed-hangs n at t p m))) (isIn w q p) refl)
+  apart-none {n} {g = g} {t = t} at v s e =
+      filter-none (isIn w q) (placedIn n at t)
+      (λ p m. go p (cells-inside v s (p .cell) (hangs-cell (placed-hangs n at t p m))) (isIn w q p) refl)
     where
       go : (p : Placed) → inside g (pointAt w (p .cell)) ≡ true → (b : Bool) → isIn w q p ≡ b → b ≡ false
       go p i false j = refl
@@ -115,8 +119,10 @@ module _ (w : List ℕ) (c : ℕ) (q : Region) where
         let R = placedIn n (linkPlace k Right) r in
         rw (filter-append (isIn w q) (here ∷ []) (L ++ R), filter-append (isIn w q) L R) (simp append-assoc)
 
-    node-through : (L : Through w q n (linkPlace k Left) l (suc met) first (enter w c q n (linkPlace k Left) (half Left g (axisOf (levels - n))) (walked (suc met) first)))
-        → Through w q n (linkPlace k Right) r (L .after) besides (enter w c q n (linkPlace k Right) (half Right g (axisOf (levels - n))) (walked (L .after) besides))
+    node-through : (L : Through w q n (linkPlace k Left) l (suc met) first
+        (enter w c q n (linkPlace k Left) (half Left g (axisOf (levels - n))) (walked (suc met) first)))
+        → Through w q n (linkPlace k Right) r (L .after) besides
+        (enter w c q n (linkPlace k Right) (half Right g (axisOf (levels - n))) (walked (L .after) besides))
         → Through w q (suc n) at (node k l r) met found (enter w c q (suc n) at g (walked met found))
     unfolding size visitBy
     node-through L R = go (meets g q) refl
@@ -151,7 +157,8 @@ module _ (w : List ℕ) (c : ℕ) (q : Region) where
       let s : Spells w c (suc n) g k (node k l r) = spells-node pos le i x y in
       let few : met < c = omega arith in
       let L = enter-through (linkPlace k Left) (suc met) (first n at k g l r met found is v pos le s few) refl (half-shape Left g a v lt) x (omega arith) in
-      let R = enter-through (linkPlace k Right) (L .after) (besides n at k g l r met found is v pos le s few) refl (half-shape Right g a v lt) y (omega (arith, L .few)) in
+      let both = besides n at k g l r met found is v pos le s few in
+      let R = enter-through (linkPlace k Right) (L .after) both refl (half-shape Right g a v lt) y (omega (arith, L .few)) in
       node-through n at k g l r met found is v pos le s few L R
 
 -- the tree's cells in the range, in the tree's order
@@ -165,7 +172,8 @@ pub record Finds (w : List ℕ) (q : Region) (t : Tree) (s : Search) : Type 0 wh
   pub found : s ≡ going met (hitsIn w q t) first
   pub hangs : (k : ℕ) (ks : List ℕ) → hitsIn w q t ≡ k ∷ ks → HangsAt (suc levels) rootPlace t k first
 
-pub search-finds : {w : List ℕ} {c : ℕ} {t : Tree} (q : Region) → Spells w c (suc levels) rootRegion (getD w rootPlace 0) t → Distinct (cellsOf t) → capacityOf w ≡ c
+pub search-finds : {w : List ℕ} {c : ℕ} {t : Tree} (q : Region) → Spells w c (suc levels) rootRegion (getD w rootPlace 0) t → Distinct (cellsOf t)
+    → capacityOf w ≡ c
     → Finds w q t (search w q)
 unfolding search
 search-finds {w} {c} {t} q s d e = record {
@@ -190,7 +198,8 @@ search-finds {w} {c} {t} q s d e = record {
         sym (filter-map (λ k. inside q (pointAt w k)) (λ p. p .cell) (placedIn (suc levels) rootPlace t))
         ∙ ap (filter (λ k. inside q (pointAt w k))) (placed-cells rootPlace s)
 
-    go : (k : ℕ) (ks : List ℕ) (ps : List Placed) → ((p : Placed) → List·Memᴰ p ps → List·Memᴰ p (placedIn (suc levels) rootPlace t)) → map (λ p. p .cell) ps ≡ k ∷ ks
+    go : (k : ℕ) (ks : List ℕ) (ps : List Placed) → ((p : Placed) → List·Memᴰ p ps → List·Memᴰ p (placedIn (suc levels) rootPlace t))
+        → map (λ p. p .cell) ps ≡ k ∷ ks
         → HangsAt (suc levels) rootPlace t k (spotOf ps)
     go k ks [] f i = absurd (nil≢cons i)
     go k ks (p ∷ ps) f i =

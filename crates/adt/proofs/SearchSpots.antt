@@ -38,7 +38,9 @@ module _ (w : List ℕ) where
   spotsFrom q (suc n) l at g =
       let k = getD w at 0 in
       let a = axisOf l in
-      let onward : List Spot = record { level = l; link = at } ∷ spotsFrom q n (suc l) (linkPlace k Left) (half Left g a) ++ spotsFrom q n (suc l) (linkPlace k Right) (half Right g a) in
+      let left = spotsFrom q n (suc l) (linkPlace k Left) (half Left g a) in
+      let right = spotsFrom q n (suc l) (linkPlace k Right) (half Right g a) in
+      let onward : List Spot = record { level = l; link = at } ∷ left ++ right in
       cond (eqb k 0) [] (cond (meets g q) onward [])
 
   pub searchFrom-spots : (q : Region) (n l at : ℕ) (g : Region) → searchFrom w q n l at g ≡ linksAt w (spotsFrom q n l at g)
@@ -124,4 +126,9 @@ module _ (w : List ℕ) (c : ℕ) (q : Region) where
       let goLeft = enter-passes n (suc l) (linkPlace k Left) (half Left g a) in
       let goRight = enter-passes n (suc l) (linkPlace k Right) (half Right g a) in
       let below : suc l + n ≡ suc levels = omega arith in
-      rw (passAll-cond, passAll-cond, level, visit-passes (enter w c q n) here g met hits first left right (omega arith) (λ t. goLeft t below) (λ t. goRight t below))
+      rw (
+        passAll-cond,
+        passAll-cond,
+        level,
+        visit-passes (enter w c q n) here g met hits first left right (omega arith) (λ t. goLeft t below) (λ t. goRight t below),
+      )

@@ -3,18 +3,16 @@
 --   search-blank, search-apart, search-above, search-visits   the tests at the root
 -- Assumes nothing.
 use Prim.Native.Nat.{ℕ, suc, _-_, _<_, _≤_}
-use mathlib.Core.Path.{_≡_, refl, sym, ap, subst, _∙_}
+use mathlib.Core.Path.{_≡_, refl, sym, subst, _∙_}
 use mathlib.Core.Bool.{true, false}
 use mathlib.Core.List.{List, []}
 use native.Mathlib.Omega.{arith}
-use lib.Dec.{lit≤}
-use lib.ListN.{length, getD, replicate}
+use lib.ListN.{getD}
 use Rattle.geometry.specs.Levels.{levels}
 use Rattle.geometry.specs.Region.{Region, rootRegion, meets}
 use Rattle.pool.specs.Layout.{rootPlace}
-use Rattle.pool.specs.Capacity.{capacityOf}
 use Rattle.pool.proofs.CapacityLaws.{capacityOf-poolLength}
-use Rattle.adt.specs.Search.{Spot, nowhere, Search, broken, going, visitBy, enter, search}
+use Rattle.adt.specs.Search.{nowhere, going, visitBy, enter, search}
 use Rattle.adt.specs.SearchMemory.{searchIn, Counted, Fresh, Encodes}
 use Rattle.adt.proofs.EnterSteps.{enter-blank, enter-apart, enter-above, enter-visits}
 
@@ -32,7 +30,9 @@ module _ {w : List ℕ} {c : ℕ} {h t : List ℕ} (q : Region) (fresh : Fresh w
 
   module _ (k : ℕ) (e : k ≡ getD w rootPlace 0) where
     pub search-blank : k ≡ 0 → Encodes c true h t (search w q)
-    search-blank z = record { counted = fresh-counted; state = fresh-state ∙ enter-blank w c q (suc levels) rootPlace k rootRegion e 0 [] nowhere z ∙ sym search-enters }
+    search-blank z =
+        let blank = enter-blank w c q (suc levels) rootPlace k rootRegion e 0 [] nowhere z in
+        record { counted = fresh-counted; state = fresh-state ∙ blank ∙ sym search-enters }
 
     module _ (nz : ¬ (k ≡ 0)) where
       deep : ¬ (suc levels ≡ 0)

@@ -5,19 +5,19 @@
 --   test-first      the first hit
 -- Assumes nothing.
 use Prim.Native.Nat.{ℕ, zero, suc, _+_, _<_, _≤_}
-use mathlib.Core.Path.{_≡_, refl, sym, ap, _∙_}
-use mathlib.Core.Bool.{Bool, true, false, cond}
-use mathlib.Core.List.{List, [], _∷_, _++_}
+use mathlib.Core.Path.{_≡_, refl, _∙_}
+use mathlib.Core.Bool.{true, false}
+use mathlib.Core.List.{List, [], _∷_}
 use native.Mathlib.Numerals.{add-one}
 use native.Mathlib.Omega.{arith}
-use lib.ListN.{length, take, getD, set, length-set}
+use lib.ListN.{length, take, set, length-set}
 use lib.Seq.{take-suc-set}
 use borrow.Author.Tests.{lt-ltb, le-ltb}
 use Rattle.geometry.specs.Region.{Region}
 use Rattle.geometry.specs.Point.{inside}
 use Rattle.model.specs.Limits.{maxGrants}
 use Rattle.adt.specs.Node.{pointAt}
-use Rattle.adt.specs.Search.{Spot, Search, broken, going, firstSpot, meet}
+use Rattle.adt.specs.Search.{Spot, firstSpot, meet}
 use Rattle.adt.specs.SearchMemory.{metIn, foundIn, searchIn, Counted, Encodes}
 
 -- a fact about four numbers is one about every list of length 4
@@ -77,7 +77,16 @@ module _ (w : List ℕ) (c : ℕ) (q : Region) (here : Spot) (k : ℕ) (h : List
                   met-cells = omega arith;
                 };
             state =
-                rw (← i, ← j, lt-ltb met c lt, hit, later-spot found h (record { level = d; link = e }) here pos (omega (arith, n .hit-room)), add-one met, add-one found, take-suc-set h found k (omega (arith, n .hit-room, n .found-met)));
+                rw (
+                  ← i,
+                  ← j,
+                  lt-ltb met c lt,
+                  hit,
+                  later-spot found h (record { level = d; link = e }) here pos (omega (arith, n .hit-room)),
+                  add-one met,
+                  add-one found,
+                  take-suc-set h found k (omega (arith, n .hit-room, n .found-met)),
+                );
           }
 
       pub test-first : (t : List ℕ) → Counted c h t → met ≡ metIn t → found ≡ foundIn t → found ≤ 0

@@ -63,9 +63,11 @@ spells-child Right (spells-node pos le i x y) = y
 
 pub cells-upto : {w : List ℕ} {c n : ℕ} {g : Region} {k : ℕ} {t : Tree} → Spells w c n g k t → Upto c (cellsOf t)
 cells-upto spells-blank j m = absurd (no-cell j m)
-cells-upto {c = c} (spells-node {k = k} {l = l} {r = r} pos le i x y) j m = every-cell (λ j. (0 < j) × (j ≤ c)) k l r (pos, le) (cells-upto x) (cells-upto y) j m
+cells-upto {c = c} (spells-node {k = k} {l = l} {r = r} pos le i x y) j m =
+    every-cell (λ j. (0 < j) × (j ≤ c)) k l r (pos, le) (cells-upto x) (cells-upto y) j m
 
-pub cells-inside : {w : List ℕ} {c n : ℕ} {g : Region} {k : ℕ} {t : Tree} → Shape g → Spells w c n g k t → (j : ℕ) → List·Memᴰ j (cellsOf t) → inside g (pointAt w j) ≡ true
+pub cells-inside : {w : List ℕ} {c n : ℕ} {g : Region} {k : ℕ} {t : Tree} → Shape g → Spells w c n g k t → (j : ℕ) → List·Memᴰ j (cellsOf t)
+    → inside g (pointAt w j) ≡ true
 cells-inside v spells-blank j m = absurd (no-cell j m)
 cells-inside {w} v (spells-node {n = n} {g = g} {k = k} {l = l} {r = r} pos le i x y) j m =
     let a = axisOf (levels - n) in

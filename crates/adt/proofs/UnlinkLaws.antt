@@ -28,7 +28,8 @@ use Rattle.adt.proofs.TreeLaws.{child, cells-upto, cells-inside}
 use Rattle.adt.proofs.PartLaws.{Part, part-here, part-child}
 use Rattle.adt.proofs.NodeLaws.{sides-apart, Away, root-away, other-away, link-away, Hook, hook-link, hook-within, hook-header, field-set-hook}
 use Rattle.adt.proofs.FrameLaws.{SameNode, spells-frame, inside-same}
-use Rattle.adt.proofs.ExchangeLaws.{other, withSon, withSon-cells, spells-withSon, exchanged, outside, exchanged-cells, part-child-link, spells-parts, part-outside, part-hook, Kept, exchanged-spells}
+use Rattle.adt.proofs.ExchangeLaws.{other, withSon, withSon-cells, spells-withSon, exchanged, outside, exchanged-cells}
+use Rattle.adt.proofs.ExchangeLaws.{part-child-link, spells-parts, part-outside, part-hook, Kept, exchanged-spells}
 
 pub record Unlinked (w x : List ℕ) (c n at : ℕ) (g : Region) (k : ℕ) (js : List ℕ) : Type 0 where
   pub tree : Tree
@@ -73,7 +74,8 @@ abbrev bothMoved : List ℕ → ℕ → ℕ → ℕ → List ℕ
 bothMoved w k leaf leafAt = set (leftMoved w k leaf leafAt) (linkPlace leaf Right) (getD (cutOff w leafAt) (linkPlace k Right) 0)
 
 -- reads of the words with a terminal cell in the place of the cell k
-module _ (w : List ℕ) (k : ℕ) {c at leaf leafAt : ℕ} (long : length w ≡ poolLength c) (hook : Hook c at) (leafHook : Hook c leafAt) (pos : 0 < leaf) (le : leaf ≤ c) where
+module _ (w : List ℕ) (k : ℕ) {c at leaf leafAt : ℕ} (long : length w ≡ poolLength c) (hook : Hook c at) (leafHook : Hook c leafAt) (pos : 0 < leaf)
+    (le : leaf ≤ c) where
   replaced-long : length (replaced w k at leaf leafAt) ≡ length w
   unfolding replaced
   replaced-long =
@@ -115,7 +117,8 @@ module _ (w : List ℕ) (k : ℕ) {c at leaf leafAt : ℕ} (long : length w ≡ 
   replaced-leaf away Right =
       let f = length-set (cutOff w leafAt) (linkPlace leaf Left) (getD (cutOff w leafAt) (linkPlace k Left) 0) in
       getD-set-other (bothMoved w k leaf leafAt) at (linkPlace leaf Right) leaf 0 (away Right)
-      ∙ getD-set-same (leftMoved w k leaf leafAt) (linkPlace leaf Right) _ 0 (omega (arith, hook-within {c = c} (hook-link Right pos le), f, length-set w leafAt 0))
+      ∙ getD-set-same (leftMoved w k leaf leafAt) (linkPlace leaf Right) _ 0
+      (omega (arith, hook-within {c = c} (hook-link Right pos le), f, length-set w leafAt 0))
 
   -- no other place is stored
   replaced-other : (link : ℕ) → link ≢ at → Away link leaf → getD (replaced w k at leaf leafAt) link 0 ≡ getD (cutOff w leafAt) link 0
@@ -206,13 +209,15 @@ module _ {w : List ℕ} {c n at m leafAt : ℕ} {g : Region} {leaf : ℕ} (s : S
   spells-moved =
       let parts = spells-parts s k l r (exchanged q blank) spells-cut in
       let links = replaced-leaf w k long hook leafHook (leaf-bounds .0) (leaf-bounds .1) (away leaf leaf-in) in
+      let words = replaced-words w k long hook leafHook (leaf-bounds .0) (leaf-bounds .1) leaf in
       spells-withSon s l r (exchanged q blank) (leaf-bounds .0) (leaf-bounds .1)
-      (inside-same w moved leaf g (grantAt-same w moved leaf (replaced-words w k long hook leafHook (leaf-bounds .0) (leaf-bounds .1) leaf)) (cells-inside shape sp leaf leaf-in))
+      (inside-same w moved leaf g (grantAt-same w moved leaf words) (cells-inside shape sp leaf leaf-in))
       (rw (links s) (spells-frame (λ j i. same-moved j (Memᴰ·append-left (k ∷ beside) (perm-mem (perm-sym part-rest) i))) (parts .0)))
       (rw (links (other s)) (spells-frame (λ j i. same-moved j (Memᴰ·append-right (outside q) (List·Memᴰ·tail i))) (parts .1)))
 
   -- the links of the cells outside of the part
-  links-moved : (j : ℕ) (z : Side) → 0 < j → j ≤ c → ¬ List·Memᴰ j (cellsOf (node k l r)) → linkPlace j z ≢ at → getD moved (linkPlace j z) 0 ≡ getD w (linkPlace j z) 0
+  links-moved : (j : ℕ) (z : Side) → 0 < j → j ≤ c → ¬ List·Memᴰ j (cellsOf (node k l r)) → linkPlace j z ≢ at
+      → getD moved (linkPlace j z) 0 ≡ getD w (linkPlace j z) 0
   links-moved j z pos le out apart =
       replaced-other w k long hook leafHook (leaf-bounds .0) (leaf-bounds .1) (linkPlace j z) apart
       (other-away j leaf z pos (leaf-bounds .0) (λ e. out (Memᴰ·cast e leaf-in)))
@@ -251,7 +256,8 @@ module _ {w : List ℕ} {c n at m leafAt : ℕ} {g : Region} {leaf : ℕ} (s : S
   pub inner-other : ¬ (leaf ≡ k)
   inner-other e = not-leaf k (Memᴰ·append-right (outside q) (List·Memᴰ·head refl)) (sym e)
 
-pub unlinked-part : {w : List ℕ} {c n at m leafAt : ℕ} {g : Region} {k leaf : ℕ} {l r : Tree} → Part (suc n) at (node k l r) (suc m) leafAt (node leaf blank blank)
+pub unlinked-part : {w : List ℕ} {c n at m leafAt : ℕ} {g : Region} {k leaf : ℕ} {l r : Tree}
+    → Part (suc n) at (node k l r) (suc m) leafAt (node leaf blank blank)
     → length w ≡ poolLength c → Hook c at → getD w at 0 ≡ k → Shape g → Spells w c (suc n) g k (node k l r)
     → Distinct (cellsOf (node k l r)) → ((j : ℕ) → List·Memᴰ j (cellsOf (node k l r)) → Away at j)
     → Unlinked w (unlinked w k at leaf leafAt) c (suc n) at g k (cellsOf (node k l r))

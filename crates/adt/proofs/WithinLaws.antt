@@ -2,8 +2,8 @@
 --   descent-within       the blank link's place
 --   follow-within    the terminal cell, and the place of its link
 -- Assumes nothing.
-use Prim.Native.Nat.{ℕ, zero, suc, _+_, _-_, _<_, _≤_}
-use mathlib.Core.Path.{_≡_, refl, sym, ap, subst, _∙_}
+use Prim.Native.Nat.{ℕ, zero, suc, _-_, _<_, _≤_}
+use mathlib.Core.Path.{_≡_, refl}
 use mathlib.Core.Bool.{Bool, true, false, cond, _&&_}
 use mathlib.Core.List.{List}
 use native.Mathlib.Omega.{arith}
@@ -61,7 +61,8 @@ module _ (w : List ℕ) (c : ℕ) (long : length w ≡ poolLength c) where
       go true = omega (arith, place-within c k (linkField Right) pos le)
       go false = omega (arith, place-within c k (linkField Left) pos le)
 
-  follow-cases : (leaf cut k at : ℕ) (blank go : Bool) (rest : RemovalWalk) → 0 < k → k ≤ c → at < length w → (blank ≡ false → go ≡ true → rest ≡ terminal leaf cut → Ends leaf cut)
+  follow-cases : (leaf cut k at : ℕ) (blank go : Bool) (rest : RemovalWalk) → 0 < k → k ≤ c → at < length w
+      → (blank ≡ false → go ≡ true → rest ≡ terminal leaf cut → Ends leaf cut)
       → cond blank (terminal k at) (cond go rest remove.broken) ≡ terminal leaf cut → Ends leaf cut
   follow-cases leaf cut k at true go rest pos le h f e =
       let q : k ≡ leaf = cc in
@@ -73,8 +74,13 @@ module _ (w : List ℕ) (c : ℕ) (long : length w ≡ poolLength c) where
   pub follow-within : (n k at met leaf cut : ℕ) → 0 < k → k ≤ c → at < length w → follow w c n k at met ≡ terminal leaf cut → Ends leaf cut
   unfolding follow
   follow-within zero k at met leaf cut pos le h e =
-      follow-cases leaf cut k at (eqb (getD w (nextLink w k) 0) 0) false remove.broken pos le h (λ nz go f. absurd (let z : _≡_ {A = ℕ} 0 1 = cc in omega arith)) e
+      follow-cases leaf cut k at (eqb (getD w (nextLink w k) 0) 0) false remove.broken pos le h
+      (λ nz go f. absurd (let z : _≡_ {A = ℕ} 0 1 = cc in omega arith)) e
   follow-within (suc n) k at met leaf cut pos le h e =
       let next = getD w (nextLink w k) 0 in
       follow-cases leaf cut k at (eqb next 0) (leb next c && ltb met c) (follow w c n next (nextLink w k) (suc met)) pos le h
-      (λ nz go f. follow-within n next (nextLink w k) (suc met) leaf cut (let z = eqb-false next 0 nz in omega arith) (leb-true next c (and-true (leb next c) (ltb met c) go)) (next-within k pos le) f) e
+      (λ nz go f.
+      let some : 0 < next = let z = eqb-false next 0 nz in omega arith in
+      let few = leb-true next c (and-true (leb next c) (ltb met c) go) in
+      follow-within n next (nextLink w k) (suc met) leaf cut some few (next-within k pos le) f)
+      e

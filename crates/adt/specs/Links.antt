@@ -38,7 +38,9 @@ module _ (w : List ℕ) where
   searchFrom q (suc n) l at g =
       let k = getD w at 0 in
       let a = axisOf l in
-      let onward : List Link = record { level = l; to = k } ∷ searchFrom q n (suc l) (linkPlace k Left) (half Left g a) ++ searchFrom q n (suc l) (linkPlace k Right) (half Right g a) in
+      let left = searchFrom q n (suc l) (linkPlace k Left) (half Left g a) in
+      let right = searchFrom q n (suc l) (linkPlace k Right) (half Right g a) in
+      let onward : List Link = record { level = l; to = k } ∷ left ++ right in
       cond (eqb k 0) [] (cond (meets g q) onward [])
 
   -- a grant that would have to go below the last level meets that cause, whatever link stands there

@@ -8,7 +8,7 @@
 --   Holds w c gs      the links reach each of the c cells once, and the cells reached from the root carry the grants gs,
 --                     one each, each with its point in the region there, none behind more than 112 others
 -- Assumes nothing: these are definitions.
-use Prim.Native.Nat.{ℕ, zero, suc, _*_, _≤_, _<_}
+use Prim.Native.Nat.{ℕ, zero, suc, _≤_, _<_}
 use mathlib.Core.Path.{_≡_}
 use mathlib.Core.Bool.{cond}
 use mathlib.Core.List.{List, [], _∷_, List·Memᴰ}
@@ -16,7 +16,7 @@ use lib.Dec.{T, eqb}
 use lib.ListN.{length, getD}
 use Rattle.model.specs.declared.Grant.{Grant}
 use Rattle.geometry.specs.declared.Side.{Side}
-use Rattle.geometry.specs.declared.Side.the-variants.{Left, Right}
+use Rattle.geometry.specs.declared.Side.the-variants.{Left}
 use Rattle.geometry.specs.Axis.{axisOf}
 use Rattle.geometry.specs.Levels.{levels}
 use Rattle.geometry.specs.Region.{Region, rootRegion, half}

@@ -1,11 +1,8 @@
 // Insertion: a new point goes down from the root by the half that holds it, to the first blank link; the free head's cell is added there.
 ghost use mathlib.Core.Path.{_≡_};
-ghost use Prim.Native.Nat.{_<_, _≤_};
-ghost use lib.ListN.{length};
-ghost use Rattle.model.specs.Limits.{maxGrants};
-ghost use Rattle.pool.specs.Capacity.{poolLength};
-ghost use Rattle.adt.specs.Insert.{descend, freeHead, nextFree, inserted};
-ghost use Rattle.adt.specs.WalkResult.{insertionWalkOf};
+ghost use Rattle.pool.specs.Capacity.{Sized};
+ghost use Rattle.adt.specs.Insert.{descend, inserted};
+ghost use Rattle.adt.specs.WalkResult.{insertionWalkOf, FreeSlot};
 use crate::node::link_place;
 use geometry::axis::LEVELS;
 use geometry::axis::axis_of;
@@ -27,7 +24,7 @@ pub enum Slot {
 
 // The way down of a point.
 pub fn find_slot(pool: &[u16], cells: usize, point: Point) -> Slot
-    requires { ⌜ (cells ≤ maxGrants) × (length (now pool) ≡ poolLength cells) ⌝ }
+    requires { ⌜ Sized (now pool) cells ⌝ }
     ensures { λ r. ⌜ insertionWalkOf r ≡ descend (now (pool .entry)) point ⌝ }
 {
     let mut region = root_region();
@@ -57,7 +54,7 @@ pub fn find_slot(pool: &[u16], cells: usize, point: Point) -> Slot
 
 // Hangs the free head's cell at the blank link with the grant in it; the free head moves on to the next free cell.
 pub fn insert(pool: &mut [u16], link: usize, free: usize, next: u16, g: Grant)
-    requires { ⌜ (0 < free) × (free ≤ maxGrants) × (poolLength free ≤ length (now pool)) × (link < length (now pool)) × (free ≡ freeHead (now pool)) × (next ≡ nextFree (now pool)) ⌝ }
+    requires { ⌜ FreeSlot (now pool) link free next ⌝ }
     ensures { λ r. ⌜ now (pool .exit) ≡ inserted (now (pool .entry)) link g ⌝ }
 {
     store_grant(pool, free, g);

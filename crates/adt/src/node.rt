@@ -1,11 +1,10 @@
 // A cell as a node of the tree.
 ghost use mathlib.Core.Path.{_≡_};
 ghost use Prim.Native.Nat.{_<_, _≤_};
-ghost use lib.ListN.{length};
 ghost use Rattle.model.specs.Limits.{maxGrants};
 ghost use Rattle.geometry.specs.Point.{pointOf, inside};
 ghost use Rattle.geometry.specs.SearchRange.{OneSided};
-ghost use Rattle.pool.specs.Capacity.{poolLength};
+ghost use Rattle.pool.specs.Capacity.{poolLength, InPool};
 ghost use Rattle.adt.specs.Node.{linkPlace, pointAt};
 use geometry::Side;
 use geometry::axis::DOOR_FROM;
@@ -41,7 +40,7 @@ pub fn point_of(g: Grant) -> Point
 
 // Whether the point of the grant in a cell lies in a search range. Only the comparisons that can fail are made.
 pub fn is_hit(pool: &[u16], cell: usize, range: &Region) -> bool
-    requires { ⌜ (0 < cell) × (cell ≤ maxGrants) × (poolLength cell ≤ length (now pool)) × OneSided (now range) ⌝ }
+    requires { ⌜ InPool (now pool) cell × OneSided (now range) ⌝ }
     ensures { λ r. ⌜ r ≡ inside (now (range .entry)) (pointAt (now (pool .entry)) cell) ⌝ }
 {
     let number = field(pool, cell, Field::Number);

@@ -1,12 +1,9 @@
 // Removal: the walk follows left, else right, from the unwanted cell until a terminal cell, which takes its place by links alone.
 ghost use mathlib.Core.Path.{_≡_};
-ghost use Prim.Native.Nat.{_<_, _≤_};
-ghost use lib.ListN.{length};
-ghost use Rattle.model.specs.Limits.{maxGrants};
-ghost use Rattle.geometry.specs.Levels.{levels};
-ghost use Rattle.pool.specs.Capacity.{poolLength};
+ghost use Prim.Native.Nat.{_<_};
+ghost use Rattle.pool.specs.Capacity.{poolLength, InPool};
 ghost use Rattle.adt.specs.Remove.{nextLink, follow, replaced, freed, removed};
-ghost use Rattle.adt.specs.WalkResult.{removalWalkOf, Removable};
+ghost use Rattle.adt.specs.WalkResult.{removalWalkOf, RemovalStep, Removable};
 use pool::Field;
 use pool::cell::store_free;
 use pool::layout::FREE;
@@ -23,7 +20,7 @@ pub enum Terminal {
 
 // The place of the link that the walk goes through: left where that is not blank, else right.
 fn next_link(pool: &[u16], k: usize) -> usize
-    requires { ⌜ (0 < k) × (k ≤ maxGrants) × (poolLength k ≤ length (now pool)) ⌝ }
+    requires { ⌜ InPool (now pool) k ⌝ }
     ensures { λ r. ⌜ (r ≡ nextLink (now (pool .entry)) k) × (r < poolLength k) ⌝ }
 {
     let left = place_of(k, Field::Left);
@@ -42,7 +39,7 @@ pub fn find_terminal(
     link: usize,
     met: usize,
 ) -> Terminal
-    requires { ⌜ (cells ≤ maxGrants) × (length (now pool) ≡ poolLength cells) × (below ≤ levels) × (0 < k) × (k ≤ cells) × (met ≤ cells) ⌝ }
+    requires { ⌜ RemovalStep (now pool) cells below k met ⌝ }
     ensures { λ r. ⌜ removalWalkOf r ≡ follow (now (pool .entry)) cells below k link met ⌝ }
 {
     let at = next_link(pool, k);
@@ -77,7 +74,7 @@ fn replace(pool: &mut [u16], k: usize, link: usize, leaf: usize, cut: usize)
 
 // The cell becomes the free head.
 fn free(pool: &mut [u16], k: usize)
-    requires { ⌜ (0 < k) × (k ≤ maxGrants) × (poolLength k ≤ length (now pool)) ⌝ }
+    requires { ⌜ InPool (now pool) k ⌝ }
     ensures { λ r. ⌜ now (pool .exit) ≡ freed (now (pool .entry)) k ⌝ }
 {
     let next = pool[FREE];

@@ -104,7 +104,7 @@ module _ (w f : List ℕ) where
             load-done few bytes made =
                 let cells = length-taken w e n .capacity in
                 let taken = length-taken w e n in
-                let same = file-added f (bytes-below f bytes) load-accepted c (taken .some) (taken .few) (omega (arith, t, few)) in
+                let same = file-added f (bytes-below f bytes) load-accepted c (taken .sized .some) (taken .sized .few) (omega (arith, t, few)) in
                 rw (made, ← same, ← cells)
                 (leaves-as
                 (first-fails w [] loaded _ _ right

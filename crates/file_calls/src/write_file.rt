@@ -6,7 +6,7 @@ ghost use lib.ListN.{length, take, drop};
 ghost use lib.Seq.{sets};
 ghost use Rattle.lists.specs.Overwrite.{overwrite};
 ghost use Rattle.model.specs.Limits.{maxGrants};
-ghost use Rattle.pool.specs.Capacity.{poolLength};
+ghost use Rattle.pool.specs.Capacity.{InPool};
 ghost use Rattle.pool.specs.Cell.{grantAt};
 ghost use Rattle.grants_file.specs.Layout.{recordBytes, blockBytes, recordsPlace, recordsPerBlock};
 ghost use Rattle.grants_file.specs.Record.{encodeRecord};
@@ -30,7 +30,7 @@ use pool::layout::wide;
 
 // The record of the grant in a cell, whole, at a place of the block.
 fn write_record(pool: &[u16], cell: usize, block: &mut [u8], at: usize)
-    requires { ⌜ (0 < cell) × (cell ≤ maxGrants) × (poolLength cell ≤ length (now pool)) × (at + recordBytes ≤ length (now block)) ⌝ }
+    requires { ⌜ InPool (now pool) cell × (at + recordBytes ≤ length (now block)) ⌝ }
     ensures { λ r. ⌜ now (block .exit) ≡ sets (now (block .entry)) at (encodeRecord (grantAt (now (pool .entry)) cell)) ⌝ }
 {
     let g = grant_at(pool, cell);

@@ -8,22 +8,20 @@ use mathlib.Core.List.{List, [], _∷_, map}
 use native.Mathlib.Omega.{arith}
 use native.Mathlib.Decide.{decLt}
 use lib.ListN.{length, take, getD, List·getD-eq-default}
-use Rattle.lists.specs.Tests.{filter}
-use Rattle.model.specs.Limits.{maxGrants}
 use Rattle.geometry.specs.Region.{Region}
 use Rattle.geometry.specs.Levels.{levels}
 use Rattle.geometry.specs.SearchRange.{rangeOfNumber}
-use Rattle.pool.specs.Capacity.{capacityOf, poolLength}
+use Rattle.pool.specs.Capacity.{Sized}
 use Rattle.pool.proofs.CapacityLaws.{capacityOf-poolLength}
-use Rattle.adt.specs.Search.{Spot, broken, going, search}
+use Rattle.adt.specs.Search.{Spot, going, search}
 use Rattle.adt.specs.SearchMemory.{metIn, foundIn, searchIn, Encodes}
-use Rattle.adt.specs.Links.{Link, isHit, searchLinks, hitsAmong}
+use Rattle.adt.specs.Links.{Link, hitsAmong}
 use Rattle.adt.proofs.EnterSteps.{stands-as}
-use Rattle.adt.proofs.HitLaws.{IsCell, stands-within}
+use Rattle.adt.proofs.HitLaws.{stands-within}
 use Rattle.adt.proofs.SearchLinks.{search-going}
 use Rattle.index.specs.declared.find.NumberHit.the-variants.{Broken, Absent, At}
 use Rattle.calls.specs.Walks.{numberSearch, isBroken, hitsOf}
-use Rattle.index.specs.NumberSearch.{FirstAt, None, NumberFound}
+use Rattle.index.specs.NumberSearch.{NumberFound}
 
 head-take : (f : ℕ) (h : List ℕ) → ¬ (f ≡ 0) → 0 < length h → (others : List ℕ) × (take f h ≡ getD h 0 0 ∷ others)
 head-take zero h n p = absurd (n refl)
@@ -42,7 +40,7 @@ holds-within w i p = go (decLt i (length w))
     go (yes h) = h
     go (no h) = absurd (let z = List·getD-eq-default w 0 {n = i} (omega arith) in omega arith)
 
-module _ (w : List ℕ) (n c : ℕ) (q : Region) (eq : q ≡ rangeOfNumber n) (few : c ≤ maxGrants) (long : length w ≡ poolLength c)
+module _ (w : List ℕ) (n c : ℕ) (q : Region) (eq : q ≡ rangeOfNumber n) (sized : Sized w c)
     {r : Bool} {h t : List ℕ} (s : Encodes c r h t (search w q)) where
   at-number : {b : Bool} → r ≡ b → numberSearch w n ≡ searchIn b h t
   at-number e = ap (search w) (sym eq) ∙ sym (stands-as s e)
@@ -59,8 +57,8 @@ module _ (w : List ℕ) (n c : ℕ) (q : Region) (eq : q ≡ rangeOfNumber n) (f
   unfolding NumberFound hitsAmong
   number-at e z =
       let st : Encodes c true h t (search w q) = subst (λ (b : Bool). Encodes c b h t (search w q)) e s in
-      let cap = capacityOf-poolLength w c long in
-      let cell = stands-within w q st few cap 0 (omega arith) in
+      let cap = capacityOf-poolLength w c (sized .long) in
+      let cell = stands-within w q st (sized .few) cap 0 (omega arith) in
       let take = head-take (foundIn t) h z (omega (arith, st .counted .hit-room)) in
       let first : Spot = record { level = getD t 2 0; link = getD t 3 0 } in
       let found : search w q ≡ going (metIn t) (getD h 0 0 ∷ take .0) first = sym (st .state) ∙ ap (λ (hs : List ℕ). going (metIn t) hs first) (take .1) in

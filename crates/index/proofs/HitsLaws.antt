@@ -12,9 +12,8 @@ use mathlib.Core.List.{List}
 use native.Mathlib.Omega.{arith}
 use lib.ListN.{length, take, getD}
 use lib.Seq.{length-take-le}
-use Rattle.model.specs.Limits.{maxGrants}
 use Rattle.geometry.specs.Region.{Region}
-use Rattle.pool.specs.Capacity.{poolLength}
+use Rattle.pool.specs.Capacity.{Sized, InPool}
 use Rattle.pool.proofs.CapacityLaws.{capacityOf-poolLength}
 use Rattle.adt.specs.Search.{broken, search}
 use Rattle.adt.specs.SearchMemory.{foundIn, Encodes}
@@ -25,7 +24,7 @@ use Rattle.index.specs.declared.hits.Hits.the-variants.{Broken, Found}
 use Rattle.calls.specs.Walks.{isBroken, hitsOf}
 use Rattle.index.specs.Hits.{CellsAt, HitsAt, HitsFound}
 
-module _ (w : List ℕ) (c : ℕ) (q : Region) (few : c ≤ maxGrants) (long : length w ≡ poolLength c)
+module _ (w : List ℕ) (c : ℕ) (q : Region) (sized : Sized w c)
     {r : Bool} {h t : List ℕ} (s : Encodes c r h t (search w q)) where
   pub hits-broken : r ≡ false → HitsFound w q h Broken
   unfolding HitsFound
@@ -35,7 +34,7 @@ module _ (w : List ℕ) (c : ℕ) (q : Region) (few : c ≤ maxGrants) (long : l
   unfolding HitsFound
   hits-found e =
       let st : Encodes c true h t (search w q) = subst (λ (b : Bool). Encodes c b h t (search w q)) e s in
-      let cap = capacityOf-poolLength w c long in
+      let cap = capacityOf-poolLength w c (sized .long) in
       let n = st .counted in
       record {
         unbroken = ap isBroken (sym (st .state));
@@ -44,10 +43,10 @@ module _ (w : List ℕ) (c : ℕ) (q : Region) (few : c ≤ maxGrants) (long : l
         cells =
             record {
               room = n .hit-room;
-              few = omega (arith, n .found-met, n .met-cells);
+              few = omega (arith, n .found-met, n .met-cells, sized .few);
               cell = λ i lt.
-                  let k = stands-within w q st few cap i lt in
-                  record { some = k .some; few = omega (arith, k .few); long = omega (arith, k .few, long) };
+                  let k = stands-within w q st (sized .few) cap i lt in
+                  record { some = k .some; few = omega (arith, k .few, sized .few); long = omega (arith, k .few, sized .long) };
             };
       }
 
@@ -65,8 +64,8 @@ pub length-hits : (w : List ℕ) (q : Region) (h : List ℕ) {n : ℕ} → HitsA
 length-hits w q h {n} at = ap length (at .found) ∙ length-take-le n h (omega (arith, at .cells .room, at .cells .few))
 
 -- what a read of a cell asks, of the cell of a hit
-pub cell-hit : {w h : List ℕ} {n : ℕ} → CellsAt w h n → {i k : ℕ} → i < n → k ≡ getD h i 0 → (0 < k) × (k ≤ maxGrants) × (poolLength k ≤ length w)
-cell-hit cells {i} lt e = let k = cells .cell i lt in (omega (arith, k .some), omega (arith, k .few), omega (arith, k .long))
+pub cell-hit : {w h : List ℕ} {n : ℕ} → CellsAt w h n → {i k : ℕ} → i < n → k ≡ getD h i 0 → InPool w k
+cell-hit {w} cells {i} lt e = subst (InPool w) (sym e) (cells .cell i lt)
 
 -- the hits fill a part of a list that is long enough
 pub cells-part : {w h : List ℕ} {n : ℕ} → CellsAt w h n → (l : List ℕ) → n ≤ length l → CellsAt w h (length (take n l))

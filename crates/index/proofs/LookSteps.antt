@@ -36,4 +36,6 @@ module _ (w : List ℕ) (q : Region) (done : Step (List ℕ)) {c : ℕ} (e : c �
     pub look-done : {found : ℕ} → r ≡ Found found → done .answer ≡ answer
     unfolding lookOrder
     look-done b =
-        leaves-as (first-fails w [] done _ _ (pool-taken w e n .right) ∙ first-fails w [] done _ _ (found-hits w same h f b .unbroken) ∙ none-left w [] done) .answered
+        let right = first-fails w [] done _ _ (pool-taken w e n .right) in
+        let unbroken = first-fails w [] done _ _ (found-hits w same h f b .unbroken) in
+        leaves-as (right ∙ unbroken ∙ none-left w [] done) .answered

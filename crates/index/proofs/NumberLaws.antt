@@ -23,7 +23,8 @@ module _ (w hits : List ℕ) where
       → take i l ≡ numbersAt w (take i hits) → take (i + 1) (set l i v) ≡ numbersAt w (take (i + 1) hits)
   unfolding grantAt
   numbers-more l i p q {k} {v} at e before =
-      rw (add-one i, take-suc-set l i v p, take-suc hits i 0 q, e, at) (ap (λ (xs : List ℕ). xs ++ fieldOf w (getD hits i 0) Number ∷ []) before ∙ simp map-append)
+      rw (add-one i, take-suc-set l i v p, take-suc hits i 0 q, e, at)
+      (ap (λ (xs : List ℕ). xs ++ fieldOf w (getD hits i 0) Number ∷ []) before ∙ simp map-append)
 
   pub numbers-all : (l : List ℕ) (i n : ℕ) → length l ≡ n → i ≡ n → take i l ≡ numbersAt w (take i hits) → l ≡ numbersAt w (take n hits)
   numbers-all l i n long end before = sym (take-all i l (omega arith)) ∙ before ∙ rw end

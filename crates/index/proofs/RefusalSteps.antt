@@ -7,16 +7,14 @@
 --   pool-refused, pool-taken               fault 1 of the other calls, by `poolCapacity`
 -- Assumes nothing.
 use Prim.Native.Nat.{ℕ, _≤_}
-use mathlib.Core.Path.{_≡_, refl, sym, ap, _∙_}
+use mathlib.Core.Path.{_≡_, refl, sym, ap, subst, _∙_}
 use mathlib.Core.Bool.{Bool, true, false, cond}
 use mathlib.Core.List.{List, [], _∷_}
 use native.Mathlib.Omega.{arith}
-use lib.ListN.{length}
 use Rattle.model.specs.declared.Fault.{Fault}
-use Rattle.model.specs.Limits.{maxGrants}
 use Rattle.model.specs.Answer.{refusal}
 use Rattle.model.specs.Refusal.{Cause, _if_, Step, firstFault, refusing}
-use Rattle.pool.specs.Capacity.{poolLength, capacityOf, wrongLength, wrongPool, lengthCapacity, poolCapacity}
+use Rattle.pool.specs.Capacity.{Sized, capacityOf, wrongLength, wrongPool, lengthCapacity, poolCapacity}
 use Rattle.pool.proofs.CapacityLaws.{capacityOf-poolLength, wrongLength-iff, wrongPool-iff}
 use Rattle.calls.specs.Contract.{Leaves, Lends}
 
@@ -47,9 +45,7 @@ module _ {r d : Step (List ℕ)} (e : r ≡ d) where
 -- a pool of c cells that a test of fault 1 lets through
 pub record Taken (wrong : Bool) (w : List ℕ) (c : ℕ) : Type 0 where
   pub right : wrong ≡ false
-  pub some : 1 ≤ c
-  pub few : c ≤ maxGrants
-  pub long : length w ≡ poolLength c
+  pub sized : Sized w c
   pub capacity : capacityOf w ≡ c
 
 module _ (w : List ℕ) where
@@ -59,9 +55,7 @@ module _ (w : List ℕ) where
       let same : s .0 ≡ c = sym (capacityOf-poolLength w (s .0) (s .1 .long)) ∙ e in
       record {
         right = t;
-        some = omega (arith, same, s .1 .some);
-        few = omega (arith, same, s .1 .few);
-        long = s .1 .long ∙ rw same;
+        sized = subst (Sized w) same (s .1);
         capacity = e;
       }
 
@@ -79,13 +73,13 @@ module _ (w : List ℕ) where
 
   module _ {c : ℕ} where
     pub length-refused : c ≡ lengthCapacity w → c ≡ 0 → wrongLength w ≡ true
-    length-refused e z = capacity-zero (wrongLength w) (λ r. taken r r refl .some) e z
+    length-refused e z = capacity-zero (wrongLength w) (λ r. taken r r refl .sized .some) e z
 
     pub length-taken : c ≡ lengthCapacity w → ¬ (c ≡ 0) → Taken (wrongLength w) w c
     length-taken e n = let r = capacity-some (wrongLength w) e n in taken (r .0) (r .0) (r .1)
 
     pub pool-refused : c ≡ poolCapacity w → c ≡ 0 → wrongPool w ≡ true
-    pool-refused e z = capacity-zero (wrongPool w) (λ r. taken r (pool-length r) refl .some) e z
+    pool-refused e z = capacity-zero (wrongPool w) (λ r. taken r (pool-length r) refl .sized .some) e z
 
     pub pool-taken : c ≡ poolCapacity w → ¬ (c ≡ 0) → Taken (wrongPool w) w c
     pool-taken e n = let r = capacity-some (wrongPool w) e n in taken (r .0) (pool-length (r .0)) (r .1)

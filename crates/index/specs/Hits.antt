@@ -1,4 +1,5 @@
 -- What a search leaves for list, decide, count, write and match: the cells of its hits, in order, at the start of a list of 2,048 words.
+--   Searchable w c q hits  the pool w has c cells, the range q bounds each axis on one side but the number's, and hits has room for every cell
 --   CellsAt w hits n       the first n of the list are cells of the pool w
 --   HitsAt w q hits n      they are the hits of the search for the range q
 --   numbersAt w ks         the numbers of the grants in the cells ks
@@ -11,13 +12,18 @@ use mathlib.Core.List.{List, map}
 use lib.ListN.{length, take, getD}
 use Rattle.model.specs.Limits.{maxGrants}
 use Rattle.geometry.specs.Region.{Region}
-use Rattle.pool.specs.Capacity.{capacityOf}
+use Rattle.geometry.specs.SearchRange.{OneSided}
+use Rattle.pool.specs.Capacity.{Sized, InPool, capacityOf}
 use Rattle.pool.specs.Cell.{grantAt}
 use Rattle.adt.specs.Search.{broken, search}
-use Rattle.adt.specs.WalkResult.{InPool}
 use Rattle.index.specs.declared.hits.Hits.{Hits}
 use Rattle.index.specs.declared.hits.Hits.the-variants.{Broken, Found}
 use Rattle.calls.specs.Walks.{hitsOf, isBroken}
+
+pub record Searchable (w : List ℕ) (c : ℕ) (q : Region) (hits : List ℕ) : Type 0 where
+  pub sized : Sized w c
+  pub one-sided : OneSided q
+  pub room : length hits ≡ maxGrants
 
 pub record CellsAt (w hits : List ℕ) (n : ℕ) : Type 0 where
   pub room : length hits ≡ maxGrants

@@ -11,7 +11,7 @@ use Rattle.adt.specs.Search.{broken, going}
 use Rattle.index.specs.declared.find.NumberHit.{NumberHit}
 use Rattle.index.specs.declared.find.NumberHit.the-variants.{Broken, Absent, At}
 use Rattle.calls.specs.Walks.{numberSearch, hitsOf, isBroken}
-use mathlib.Core.Bool.{true, false}
+use mathlib.Core.Bool.{false}
 
 pub record FirstAt (w : List ℕ) (n k level link : ℕ) : Type 0 where
   pub met : ℕ

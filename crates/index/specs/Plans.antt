@@ -4,31 +4,30 @@
 --   added w r                         the words with the requested grant added, where the number is known to be new: no search for it
 --   addedAll w gs                     the same of grants, one after the other
 --   InsertionPlanned causes w r p    p refuses by these causes, or says where the requested grant hangs
+--   SlotPlanned w r p                the same by `slotOrder`'s causes
+--   GrantPlanned w r p               the same by all causes of grant
 --   RemovalPlanned w n p             p refuses as revoke does, or says which cell goes and which takes its place
 -- Assumes nothing: these are definitions.
-use Prim.Native.Nat.{ℕ, _<_, _≤_}
+use Prim.Native.Nat.{ℕ}
 use mathlib.Core.Path.{_≡_}
 use mathlib.Core.Bool.{_||_}
 use mathlib.Core.List.{List, [], _∷_}
 use mathlib.Core.Option.{none, some}
-use lib.ListN.{length}
 use Rattle.model.specs.declared.Fault.the-variants.{BrokenLinks, Full}
 use Rattle.model.specs.declared.Grant.{Grant}
-use Rattle.model.specs.Limits.{maxGrants}
 use Rattle.model.specs.Refusal.{Cause, _if_, firstFault, refusing}
 use Rattle.model.specs.Answer.{accepted}
 use Rattle.model.specs.Call.{Request}
-use Rattle.pool.specs.Capacity.{poolLength}
-use Rattle.adt.specs.Insert.{freeHead, nextFree, freeBroken, blankAt}
+use Rattle.adt.specs.Insert.{freeBroken, blankAt}
 use Rattle.adt.specs.Remove.{terminal}
-use Rattle.adt.specs.WalkResult.{InPool, Removable}
+use Rattle.adt.specs.WalkResult.{FreeSlot, Removable}
 use Rattle.index.specs.declared.grant.Insertion.{Insertion}
 use Rattle.index.specs.declared.grant.Insertion.the-variants as insertion
 use Rattle.index.specs.declared.revoke.Removal.{Removal}
 use Rattle.index.specs.declared.revoke.Removal.the-variants as removal
 use Rattle.calls.specs.Walks.{numberSearch, firstHit, firstSpotOf, insertionWalk, removalOf}
 use Rattle.calls.specs.Causes.{noFreeCell, insertionBroken}
-use Rattle.calls.specs.Calls.{grantedWords, revokeLine}
+use Rattle.calls.specs.Calls.{grantedWords, grantLine, revokeLine}
 use Rattle.calls.specs.FileCalls.{requestOf}
 
 unfoldable pub slotOrder : List ℕ → Request → List Cause
@@ -45,14 +44,17 @@ addedAll w (g ∷ gs) = addedAll (added w (requestOf g)) gs
 pub record Insertable (causes : List Cause) (w : List ℕ) (r : Request) (link free next : ℕ) : Type 0 where
   pub passes : firstFault causes ≡ none
   pub way : insertionWalk w r ≡ blankAt link
-  pub place : link < length w
-  pub head : free ≡ freeHead w
-  pub after : next ≡ nextFree w
-  pub cell : InPool w free
+  pub slot : FreeSlot w link free next
 
 unfoldable pub InsertionPlanned : List Cause → List ℕ → Request → Insertion → Type 0
 InsertionPlanned causes w r (insertion.Refused f) = firstFault causes ≡ some f
 InsertionPlanned causes w r (insertion.At link free next) = Insertable causes w r link free next
+
+abbrev pub SlotPlanned : List ℕ → Request → Insertion → Type 0
+SlotPlanned w r = InsertionPlanned (slotOrder w r) w r
+
+abbrev pub GrantPlanned : List ℕ → Request → Insertion → Type 0
+GrantPlanned w r = InsertionPlanned (grantLine w r) w r
 
 pub record Found (w : List ℕ) (n k link leaf cut : ℕ) : Type 0 where
   pub passes : firstFault (revokeLine w n) ≡ none

@@ -1,9 +1,5 @@
 // The search for a grant's number, which grant and revoke begin with.
-ghost use mathlib.Core.Path.{_≡_};
-ghost use Prim.Native.Nat.{_≤_};
-ghost use lib.ListN.{length};
-ghost use Rattle.model.specs.Limits.{maxGrants};
-ghost use Rattle.pool.specs.Capacity.{poolLength};
+ghost use Rattle.pool.specs.Capacity.{Sized};
 ghost use Rattle.index.specs.NumberSearch.{NumberFound};
 use adt::search::FOUND;
 use adt::search::LEVEL;
@@ -25,7 +21,7 @@ pub enum NumberHit {
 }
 
 pub fn find_number(pool: &[u16], cells: usize, number: u16) -> NumberHit
-    requires { ⌜ (cells ≤ maxGrants) × (length (now pool) ≡ poolLength cells) ⌝ }
+    requires { ⌜ Sized (now pool) cells ⌝ }
     ensures { λ r. ⌜ NumberFound (now (pool .entry)) number r ⌝ }
 {
     let mut hits = [0u16; MAX_CAPACITY];

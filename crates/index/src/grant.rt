@@ -2,12 +2,12 @@
 ghost use mathlib.Core.Path.{_≡_};
 ghost use Rattle.model.specs.Answer.{outcomeAnswer};
 ghost use Rattle.model.specs.Call.{request, requested};
-ghost use Rattle.calls.specs.Calls.{grantLine, grantCall};
+ghost use Rattle.calls.specs.Calls.{grantCall};
 ghost use Rattle.calls.specs.Contract.{Leaves};
 ghost use Rattle.pool.specs.Capacity.{Sized};
 ghost use Rattle.adt.specs.Insert.{blankAt};
 ghost use Rattle.calls.specs.Walks.{insertionWalk};
-ghost use Rattle.index.specs.Plans.{slotOrder, InsertionPlanned};
+ghost use Rattle.index.specs.Plans.{SlotPlanned, GrantPlanned};
 use crate::find::NumberHit;
 use crate::find::find_number;
 use adt::insert::Slot;
@@ -62,7 +62,7 @@ fn plan_free(
     bounds: Box,
 ) -> Insertion
     requires { ⌜ Sized (now pool) cells × (insertionWalk (now pool) (request number rank kind bounds) ≡ blankAt link) ⌝ }
-    ensures { λ r. ⌜ InsertionPlanned (slotOrder (now (pool .entry)) (request number rank kind bounds)) (now (pool .entry)) (request number rank kind bounds) r ⌝ }
+    ensures { λ r. ⌜ SlotPlanned (now (pool .entry)) (request number rank kind bounds) r ⌝ }
 {
     let free = wide(pool[FREE]);
     if cells < free {
@@ -88,7 +88,7 @@ pub fn plan_slot(
     bounds: Box,
 ) -> Insertion
     requires { ⌜ Sized (now pool) cells ⌝ }
-    ensures { λ r. ⌜ InsertionPlanned (slotOrder (now (pool .entry)) (request number rank kind bounds)) (now (pool .entry)) (request number rank kind bounds) r ⌝ }
+    ensures { λ r. ⌜ SlotPlanned (now (pool .entry)) (request number rank kind bounds) r ⌝ }
 {
     let slot = find_slot(pool, cells, point_of(requested(number, rank, kind, bounds)));
     match slot {
@@ -99,7 +99,7 @@ pub fn plan_slot(
 
 // All walks and tests of grant, in document 01's order; nothing is written.
 fn plan_insertion(pool: &[u16], number: u16, rank: u8, kind: u8, bounds: Box) -> Insertion
-    ensures { λ r. ⌜ InsertionPlanned (grantLine (now (pool .entry)) (request number rank kind bounds)) (now (pool .entry)) (request number rank kind bounds) r ⌝ }
+    ensures { λ r. ⌜ GrantPlanned (now (pool .entry)) (request number rank kind bounds) r ⌝ }
 {
     let cells = capacity(pool);
     if cells == 0 {

@@ -1,11 +1,5 @@
 // The search that list, decide, count, write and match make.
-ghost use mathlib.Core.Path.{_≡_};
-ghost use Prim.Native.Nat.{_≤_};
-ghost use lib.ListN.{length};
-ghost use Rattle.model.specs.Limits.{maxGrants};
-ghost use Rattle.geometry.specs.SearchRange.{OneSided};
-ghost use Rattle.pool.specs.Capacity.{poolLength};
-ghost use Rattle.index.specs.Hits.{HitsFound};
+ghost use Rattle.index.specs.Hits.{Searchable, HitsFound};
 use adt::search::FOUND;
 use adt::search::HitCells;
 use adt::search::search;
@@ -19,7 +13,7 @@ pub enum Hits {
 
 // Leaves the cells of the hits in `hits`, in the order of the search.
 pub fn find_hits(pool: &[u16], cells: usize, range: &Region, hits: &mut HitCells) -> Hits
-    requires { ⌜ (cells ≤ maxGrants) × (length (now pool) ≡ poolLength cells) × (length (now hits) ≡ maxGrants) × OneSided (now range) ⌝ }
+    requires { ⌜ Searchable (now pool) cells (now range) (now hits) ⌝ }
     ensures { λ r. ⌜ HitsFound (now (pool .entry)) (now (range .entry)) (now (hits .exit)) r ⌝ }
 {
     let mut counters = [0usize; 4];

@@ -68,7 +68,16 @@ SameGrantWords w v k = (f : Field) → offset Number ≤ offset f → fieldOf v 
 pub grantAt-same : (w v : List ℕ) (k : ℕ) → SameGrantWords w v k → grantAt v k ≡ grantAt w k
 unfolding grantAt
 grantAt-same w v k same =
-    cc (same Number (omega arith), same RankKind (omega arith), same StaffFrom (omega arith), same StaffTo (omega arith), same DoorFrom (omega arith), same DoorTo (omega arith), same QuarterFrom (omega arith), same QuarterTo (omega arith))
+    cc (
+      same Number (omega arith),
+      same RankKind (omega arith),
+      same StaffFrom (omega arith),
+      same StaffTo (omega arith),
+      same DoorFrom (omega arith),
+      same DoorTo (omega arith),
+      same QuarterFrom (omega arith),
+      same QuarterTo (omega arith),
+    )
 
 -- rank and kind from their word
 pub rank-word : (r : ℕ) (k : Kind) → r < 256 → (r * 2 + kindNumber k) / 2 % 256 ≡ r
@@ -85,4 +94,6 @@ unfolding grantAt
 grantAt-withCell-same w c k l r g pos le long fits =
     let v = withCell w k (cellOf l r g) in
     let at : (f : Field) → fieldOf v k f ≡ getD (cellOf l r g) (offset f) 0 = λ f. field-withCell-same w k (cellOf l r g) refl c f pos le long in
-    rw (at Number, at RankKind, at StaffFrom, at StaffTo, at DoorFrom, at DoorTo, at QuarterFrom, at QuarterTo, rank-word (g .rank) (g .kind) (fits .rank), kind-word (g .rank) (g .kind)) refl
+    let rank = rank-word (g .rank) (g .kind) (fits .rank) in
+    let kind = kind-word (g .rank) (g .kind) in
+    rw (at Number, at RankKind, at StaffFrom, at StaffTo, at DoorFrom, at DoorTo, at QuarterFrom, at QuarterTo, rank, kind) refl

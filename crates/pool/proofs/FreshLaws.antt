@@ -25,7 +25,9 @@ unfolding freeCells
 length-freeCells zero k = refl
 length-freeCells (suc n) k =
     let next = cond (eqb n 0) 0 (suc k) in
-    length-append (freeCell next) (freeCells n (suc k)) ∙ (let e : cellWords + length (freeCells n (suc k)) ≡ cellWords * suc n = omega (arith, length-freeCells n (suc k)) in e)
+    let rest = freeCells n (suc k) in
+    let e : cellWords + length rest ≡ cellWords * suc n = omega (arith, length-freeCells n (suc k)) in
+    length-append (freeCell next) rest ∙ e
 
 pub length-freshPool : (c : ℕ) → length (freshPool c) ≡ poolLength c
 unfolding freshPool

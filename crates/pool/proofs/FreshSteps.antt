@@ -5,15 +5,15 @@
 --   header-stored   the header's three stores
 --   fresh-whole   header and cells together
 -- Assumes nothing.
-use Prim.Native.Nat.{ℕ, zero, suc, _+_, _-_, _*_, _<_, _≤_}
-use mathlib.Core.Path.{_≡_, refl, sym, ap, ap₂, _∙_}
+use Prim.Native.Nat.{ℕ, zero, suc, _+_, _-_, _<_, _≤_}
+use mathlib.Core.Path.{_≡_, refl, sym, ap, _∙_}
 use mathlib.Core.Bool.{false, cond}
 use mathlib.Core.List.{List, [], _∷_, _++_, append-assoc}
 use native.Mathlib.Nat.{sub-zero}
 use native.Mathlib.Omega.{arith}
 use lib.Dec.{eqb}
 use lib.ListN.{length, take, drop, set, take-append-drop}
-use lib.Seq.{sets, sets-eq, take-at, drop-at, length-take-le, take-append-le, take-take, drop-length}
+use lib.Seq.{sets, sets-eq, drop-at, length-take-le, take-append-le, take-take, drop-length}
 use borrow.Author.Tests.{ne-eqb}
 use Rattle.pool.specs.declared.Field.the-variants.{Left}
 use Rattle.pool.specs.Layout.{headerWords, cellWords, place}

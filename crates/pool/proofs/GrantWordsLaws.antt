@@ -70,7 +70,16 @@ module _ (w : List ℕ) (c k : ℕ) (pos : 0 < k) (le : k ≤ c) (long : length 
 
 pub fieldWords-same : (w v : List ℕ) (k : ℕ) → SameGrantWords w v k → fieldWords v k ≡ fieldWords w k
 fieldWords-same w v k same =
-    cc (same Number (omega arith), same RankKind (omega arith), same StaffFrom (omega arith), same StaffTo (omega arith), same DoorFrom (omega arith), same DoorTo (omega arith), same QuarterFrom (omega arith), same QuarterTo (omega arith))
+    cc (
+      same Number (omega arith),
+      same RankKind (omega arith),
+      same StaffFrom (omega arith),
+      same StaffTo (omega arith),
+      same DoorFrom (omega arith),
+      same DoorTo (omega arith),
+      same QuarterFrom (omega arith),
+      same QuarterTo (omega arith),
+    )
 
 pub fieldWords-withCell : (w : List ℕ) (c k l r : ℕ) (g : Grant) → 0 < k → k ≤ c → length w ≡ poolLength c
     → fieldWords (withCell w k (cellOf l r g)) k ≡ grantWords g

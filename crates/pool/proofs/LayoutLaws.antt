@@ -11,8 +11,8 @@ use mathlib.Core.List.{List}
 use native.Mathlib.Omega.{arith}
 use lib.Arith.{digits-div, digits-mod}
 use lib.Dec.{lit<}
-use lib.ListN.{length, getD, set}
-use lib.Seq.{getD-set-same, getD-set-other}
+use lib.ListN.{set}
+use lib.Seq.{getD-set-other}
 use Rattle.pool.specs.declared.Field.{Field}
 use Rattle.pool.specs.declared.Field.the-variants.{Left, Right, Number, RankKind, StaffFrom, StaffTo, DoorFrom, DoorTo, QuarterFrom, QuarterTo}
 use Rattle.pool.specs.Layout.{headerWords, cellWords, offset, place, fieldOf}

@@ -1,12 +1,13 @@
 -- How long a pool is, and the number of its cells: document 01's C (document 01, "The tree": 3 + 10 × C words, C from 1 to 2048).
 --   poolLength c      the words of a pool of c cells
 --   Sized w c         w is memory for a pool of c cells, c from 1 to 2,048, whatever it holds
+--   InPool w k        the words of w reach to the end of cell k, which is one of a pool's cells: from 1 to 2,048
 --   capacityOf w      C, from the length of w
 --   wrongLength w     fault 1: the pool's length is not as above
 --   wrongPool w       fault 1, except in start and load: that, or the first word is not its C
 --   lengthCapacity w, poolCapacity w   C, or 0 where the pool is refused: what the program goes by
 -- Assumes nothing: these are definitions.
-use Prim.Native.Nat.{ℕ, _+_, _-_, _*_, _/_, _≤_}
+use Prim.Native.Nat.{ℕ, _+_, _-_, _*_, _/_, _<_, _≤_}
 use mathlib.Core.Path.{_≡_}
 use mathlib.Core.Bool.{Bool, not, cond, _&&_, _||_}
 use mathlib.Core.List.{List}
@@ -22,6 +23,11 @@ pub record Sized (w : List ℕ) (c : ℕ) : Type 0 where
   pub some : 1 ≤ c
   pub few : c ≤ maxGrants
   pub long : length w ≡ poolLength c
+
+pub record InPool (w : List ℕ) (k : ℕ) : Type 0 where
+  pub some : 0 < k
+  pub few : k ≤ maxGrants
+  pub long : poolLength k ≤ length w
 
 unfoldable pub capacityOf : List ℕ → ℕ
 capacityOf w = (length w - headerWords) / cellWords

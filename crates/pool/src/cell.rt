@@ -1,9 +1,7 @@
 // What a cell carries: read whole as a grant, stored whole as a node without children or as a free cell.
 ghost use mathlib.Core.Path.{_≡_};
-ghost use Prim.Native.Nat.{_<_, _≤_};
 ghost use lib.ListN.{length};
-ghost use Rattle.model.specs.Limits.{maxGrants};
-ghost use Rattle.pool.specs.Capacity.{poolLength};
+ghost use Rattle.pool.specs.Capacity.{InPool};
 ghost use Rattle.pool.specs.Layout.{cellWords};
 ghost use Rattle.pool.specs.Cell.{grantAt, cellOf, withCell};
 ghost use Rattle.pool.specs.Fresh.{freeCell};
@@ -17,7 +15,7 @@ use model::kinds::kind_number;
 use model::kinds::kind_of;
 
 fn bounds_at(pool: &[u16], cell: usize) -> Box
-    requires { ⌜ (0 < cell) × (cell ≤ maxGrants) × (poolLength cell ≤ length (now pool)) ⌝ }
+    requires { ⌜ InPool (now pool) cell ⌝ }
     ensures { λ r. ⌜ r ≡ grantAt (now (pool .entry)) cell .bounds ⌝ }
 {
     Box {
@@ -32,7 +30,7 @@ fn bounds_at(pool: &[u16], cell: usize) -> Box
 
 // The grant in a cell.
 pub fn grant_at(pool: &[u16], cell: usize) -> Grant
-    requires { ⌜ (0 < cell) × (cell ≤ maxGrants) × (poolLength cell ≤ length (now pool)) ⌝ }
+    requires { ⌜ InPool (now pool) cell ⌝ }
     ensures { λ r. ⌜ r ≡ grantAt (now (pool .entry)) cell ⌝ }
 {
     let rank_kind = field(pool, cell, Field::RankKind);
@@ -46,7 +44,7 @@ pub fn grant_at(pool: &[u16], cell: usize) -> Grant
 
 // Stores the words of a cell.
 fn store_cell(pool: &mut [u16], cell: usize, words: [u16; 10])
-    requires { ⌜ (0 < cell) × (cell ≤ maxGrants) × (poolLength cell ≤ length (now pool)) × (length words ≡ cellWords) ⌝ }
+    requires { ⌜ InPool (now pool) cell × (length words ≡ cellWords) ⌝ }
     ensures { λ r. ⌜ now (pool .exit) ≡ withCell (now (pool .entry)) cell words ⌝ }
 {
     let at = place_of(cell, Field::Left);
@@ -59,7 +57,7 @@ fn store_cell(pool: &mut [u16], cell: usize, words: [u16; 10])
 
 // Stores a grant as a node without children.
 pub fn store_grant(pool: &mut [u16], cell: usize, g: Grant)
-    requires { ⌜ (0 < cell) × (cell ≤ maxGrants) × (poolLength cell ≤ length (now pool)) ⌝ }
+    requires { ⌜ InPool (now pool) cell ⌝ }
     ensures { λ r. ⌜ now (pool .exit) ≡ withCell (now (pool .entry)) cell (cellOf 0 0 g) ⌝ }
 {
     let b = g.bounds;
@@ -82,7 +80,7 @@ pub fn store_grant(pool: &mut [u16], cell: usize, g: Grant)
 
 // Stores a free cell that leads to the next one.
 pub fn store_free(pool: &mut [u16], cell: usize, next: u16)
-    requires { ⌜ (0 < cell) × (cell ≤ maxGrants) × (poolLength cell ≤ length (now pool)) ⌝ }
+    requires { ⌜ InPool (now pool) cell ⌝ }
     ensures { λ r. ⌜ now (pool .exit) ≡ withCell (now (pool .entry)) cell (freeCell next) ⌝ }
 {
     store_cell(pool, cell, [next, 0, 0, 0, 0, 0, 0, 0, 0, 0]);

@@ -1,10 +1,10 @@
 // Where each word of a pool lies: the one file of code that names a place (specs/Layout and Capacity say the same).
 ghost use mathlib.Core.Path.{_≡_};
 ghost use Prim.Native.Nat.{_+_, _<_, _≤_};
-ghost use lib.ListN.{length, set};
+ghost use lib.ListN.{set};
 ghost use Rattle.model.specs.Limits.{maxGrants};
 ghost use Rattle.pool.specs.Layout.{place, offset, cellWords, fieldOf};
-ghost use Rattle.pool.specs.Capacity.{poolLength, lengthCapacity, poolCapacity};
+ghost use Rattle.pool.specs.Capacity.{poolLength, InPool, lengthCapacity, poolCapacity};
 use crate::Field;
 use model::MAX_GRANTS;
 
@@ -57,7 +57,7 @@ pub fn place_of(cell: usize, f: Field) -> usize
 
 // What stands in a field of a cell.
 pub fn field(pool: &[u16], cell: usize, f: Field) -> u16
-    requires { ⌜ (0 < cell) × (cell ≤ maxGrants) × (poolLength cell ≤ length (now pool)) ⌝ }
+    requires { ⌜ InPool (now pool) cell ⌝ }
     ensures { λ r. ⌜ r ≡ fieldOf (now (pool .entry)) cell f ⌝ }
 {
     pool[place_of(cell, f)]
@@ -65,7 +65,7 @@ pub fn field(pool: &[u16], cell: usize, f: Field) -> u16
 
 // A store into a field of a cell.
 pub fn set_field(pool: &mut [u16], cell: usize, f: Field, value: u16)
-    requires { ⌜ (0 < cell) × (cell ≤ maxGrants) × (poolLength cell ≤ length (now pool)) ⌝ }
+    requires { ⌜ InPool (now pool) cell ⌝ }
     ensures { λ r. ⌜ now (pool .exit) ≡ set (now (pool .entry)) (place cell f) value ⌝ }
 {
     let at = place_of(cell, f);

@@ -16,7 +16,12 @@ use Rattle.adt.proofs.insert.find_slot.Statement.{statement}
 use Rattle.adt.proofs.insert.find_slot.Tie as tie
 
 abbrev Inv-loop : tie.InvT-loop
-Inv-loop pool cells point region₀ link₀ below₀ met₀ region link below met = (below ≤ 113) × (link < length pool) × (met ≤ cells) × Shape region × (descendFrom pool cells point below link region met ≡ descend pool point)
+Inv-loop pool cells point region₀ link₀ below₀ met₀ region link below met =
+    (below ≤ 113)
+    × (link < length pool)
+    × (met ≤ cells)
+    × Shape region
+    × (descendFrom pool cells point below link region met ≡ descend pool point)
 
 abbrev μ-loop : tie.MeasureT-loop
 μ-loop pool cells point region₀ link₀ below₀ met₀ region link below met = below
@@ -30,8 +35,9 @@ add-below c = search needs
 loop-holds : tie.Need-loop-holds Inv-loop μ-loop
 unfolding descend
 loop-holds c =
-    let p = c .before .before .pre in
-    (lit≤ tt, omega (arith, p .1), search needs, subst Shape (sym (c .root-region .ensures)) root-shape, rw (c .root-region .ensures, capacityOf-poolLength _ _ (p .1)))
+    let long = c .before .before .pre .long in
+    let root = c .root-region .ensures in
+    (lit≤ tt, omega (arith, long), search needs, subst Shape (sym root) root-shape, rw (root, capacityOf-poolLength _ _ long))
 
 sub-below : tie.Need-sub-below Inv-loop μ-loop
 sub-below c = search needs
@@ -46,13 +52,27 @@ wide-requires : tie.Need-wide-requires Inv-loop μ-loop
 wide-requires c κs = search needs
 
 returns : tie.Need-returns Inv-loop μ-loop
-returns c = descent-blank _ _ _ _ _ _ _ _ (c .before .before .before .loop-test .taken) (c .before .wide .ensures .0) (c .if1 .taken) ∙ c .before .before .before .before .loop .inv .4
+returns c =
+    let read = c .before in
+    let inner = read .before .before in
+    descent-blank _ _ _ _ _ _ _ _ (inner .loop-test .taken) (read .wide .ensures .0) (c .if1 .taken) ∙ inner .before .loop .inv .4
 
 returns-2 : tie.Need-returns-2 Inv-loop μ-loop
-returns-2 c = descent-above _ _ _ _ _ _ _ _ (c .before .before .before .before .loop-test .taken) (c .before .before .wide .ensures .0) (c .before .if1 .left) (c .if2 .taken) ∙ c .before .before .before .before .before .loop .inv .4
+returns-2 c =
+    let one = c .before in
+    let read = one .before in
+    let inner = read .before .before in
+    descent-above _ _ _ _ _ _ _ _ (inner .loop-test .taken) (read .wide .ensures .0) (one .if1 .left) (c .if2 .taken)
+    ∙ inner .before .loop .inv .4
 
 returns-3 : tie.Need-returns-3 Inv-loop μ-loop
-returns-3 c = descent-full _ _ _ _ _ _ _ _ (c .before .before .before .before .before .loop-test .taken) (c .before .before .before .wide .ensures .0) (c .before .before .if1 .left) (c .before .if2 .left) (c .if3 .taken) ∙ c .before .before .before .before .before .before .loop .inv .4
+returns-3 c =
+    let two = c .before in
+    let one = two .before in
+    let read = one .before in
+    let inner = read .before .before in
+    descent-full _ _ _ _ _ _ _ _ (inner .loop-test .taken) (read .wide .ensures .0) (one .if1 .left) (two .if2 .left) (c .if3 .taken)
+    ∙ inner .before .loop .inv .4
 
 sub-axis-of : tie.Need-sub-axis-of Inv-loop μ-loop
 sub-axis-of c = search needs
@@ -117,12 +137,14 @@ loop-again c =
     let inner = read .before .before in
     let l = inner .before .loop in
     let p = inner .before .before .before .before .pre in
-    let half = ap (set (l .region) (axed .axis-of .result)) (halved .half-of .ensures) ∙ set-halfOf _ (l .region) _ (l .inv .3) (axed .axis-of .ensures .1) in (
+    let axis = axed .axis-of .ensures in
+    let half = ap (set (l .region) (axed .axis-of .result)) (halved .half-of .ensures) ∙ set-halfOf _ (l .region) _ (l .inv .3) (axis .1) in (
       omega (arith, l .inv .0),
-      omega (arith, c .link-place .ensures .1, p .1, two .if2 .left),
+      omega (arith, c .link-place .ensures .1, p .long, two .if2 .left),
       omega (arith, three .if3 .left),
-      subst Shape (sym half) (half-shape _ (l .region) _ (l .inv .3) (axed .axis-of .ensures .1)),
-      descent-next _ _ _ _ _ _ _ _ (inner .loop-test .taken) (read .wide .ensures .0) (one .if1 .left) (two .if2 .left) (three .if3 .left) (axed .axis-of .ensures .0) (sided .side-of .ensures) half (c .link-place .ensures .0)
+      subst Shape (sym half) (half-shape _ (l .region) _ (l .inv .3) (axis .1)),
+      descent-next _ _ _ _ _ _ _ _ (inner .loop-test .taken) (read .wide .ensures .0) (one .if1 .left) (two .if2 .left) (three .if3 .left)
+          (axis .0) (sided .side-of .ensures) half (c .link-place .ensures .0)
           ∙ l .inv .4,
     )
 

@@ -2,7 +2,7 @@
 use Rattle.pool.proofs.CellLaws.{length-withCell}
 use lib.Seq.{lt-length-set}
 use lib.ListN.{length}
-use mathlib.Core.Path.{_≡_, ap, _∙_}
+use mathlib.Core.Path.{ap, _∙_}
 use native.Mathlib.Omega.{arith}
 use Rattle.adt.specs.Insert.{inserted}
 use borrow.Author.Needs.{needs}
@@ -23,15 +23,17 @@ slice-write-pool c = search needs
 
 slice-write-pool-2 : tie.Need-slice-write-pool-2
 slice-write-pool-2 c =
-    let p = c .before .before .before .before .before .pre in
-    lt-length-set (c .before .before .store-grant .last .0) _ _ (omega (arith, ap length (c .before .before .store-grant .ensures) ∙ length-withCell _ _ _, p .2, p .0))
+    let cell = c .before .before .before .before .before .pre .cell in
+    let stored = c .before .before .store-grant in
+    let long = ap length (stored .ensures) ∙ length-withCell _ _ _ in
+    lt-length-set (stored .last .0) _ _ (omega (arith, long, cell .long, cell .some))
 
 same-length : tie.Need-same-length
 same-length c = search needs
 
 returns : tie.Need-returns
 unfolding inserted
-returns c = let p = c .before .before .before .before .before .pre in rw (c .before .before .store-grant .ensures, p .5, ← p .4)
+returns c = let p = c .before .before .before .before .before .pre in rw (c .before .before .store-grant .ensures, p .after, ← p .head)
 
 pub insert-spec : {M : Type 1} → statement M
 insert-spec =

@@ -64,7 +64,9 @@ wide-requires-2 c κs = search needs
 
 returns-4 : tie.Need-returns-4
 unfolding pointOf grantAt
-returns-4 c = short _ _ 3 (lit< tt) (c .before .before .before .wide .ensures .0 ∙ c .before .before .before .before .field3 .ensures) (c .before .wide2 .ensures .0) (c .if4 .taken)
+returns-4 c =
+    let read = c .before .before .before in
+    short _ _ 3 (lit< tt) (read .wide .ensures .0 ∙ read .before .field3 .ensures) (c .before .wide2 .ensures .0) (c .if4 .taken)
 
 index-1-if5 : tie.Need-index-1-if5
 index-1-if5 c = search needs
@@ -96,7 +98,9 @@ wide-requires-4 c κs = search needs
 
 returns-6 : tie.Need-returns-6
 unfolding pointOf grantAt
-returns-6 c = short _ _ 4 (lit< tt) (c .before .before .before .wide3 .ensures .0 ∙ c .before .before .before .before .field5 .ensures) (c .before .wide4 .ensures .0) (c .if6 .taken)
+returns-6 c =
+    let read = c .before .before .before in
+    short _ _ 4 (lit< tt) (read .wide3 .ensures .0 ∙ read .before .field5 .ensures) (c .before .wide4 .ensures .0) (c .if6 .taken)
 
 index-1-if7 : tie.Need-index-1-if7
 index-1-if7 c = search needs
@@ -128,7 +132,9 @@ wide-requires-6 c κs = search needs
 
 returns-8 : tie.Need-returns-8
 unfolding pointOf grantAt
-returns-8 c = short _ _ 5 (lit< tt) (c .before .before .before .wide5 .ensures .0 ∙ c .before .before .before .before .field7 .ensures) (c .before .wide6 .ensures .0) (c .if8 .taken)
+returns-8 c =
+    let read = c .before .before .before in
+    short _ _ 5 (lit< tt) (read .wide5 .ensures .0 ∙ read .before .field7 .ensures) (c .before .wide6 .ensures .0) (c .if8 .taken)
 
 returns-9 : tie.Need-returns-9
 unfolding pointOf grantAt
@@ -141,14 +147,21 @@ returns-9 c =
     let two = three .before .before .before in
     let one = two .before .before in
     let start = one .before .before .before .before in
-    sym (hit-axes (pointAt (start .args .pool .now) (start .args .cell)) (start .pre .3)
-    (omega (arith, one .if1 .left, one .before .before .field .ensures)) (omega (arith, two .if2 .left, one .before .before .field .ensures))
+    let number = one .before .before .field .ensures in
+    let staff = four .before .before .before in
+    let door = six .before .before .before in
+    let quarter = c .before .before .before in
+    sym (hit-axes (pointAt (start .args .pool .now) (start .args .cell)) (start .pre .1)
+    (omega (arith, one .if1 .left, number)) (omega (arith, two .if2 .left, number))
     (omega (arith, three .if3 .left, three .before .field2 .ensures))
     (omega (arith, five .if5 .left, five .before .field4 .ensures))
     (omega (arith, seven .if7 .left, seven .before .field6 .ensures))
-    (omega (arith, four .if4 .left, four .before .before .before .wide .ensures .0, four .before .before .before .before .field3 .ensures, four .before .wide2 .ensures .0)) (omega (arith, four .before .before .before .wide .ensures, four .before .before .before .before .field3 .ensures))
-    (omega (arith, six .if6 .left, six .before .before .before .wide3 .ensures .0, six .before .before .before .before .field5 .ensures, six .before .wide4 .ensures .0)) (omega (arith, six .before .before .before .wide3 .ensures, six .before .before .before .before .field5 .ensures))
-    (omega (arith, c .if8 .left, c .before .before .before .wide5 .ensures .0, c .before .before .before .before .field7 .ensures, c .before .wide6 .ensures .0)) (omega (arith, c .before .before .before .wide5 .ensures, c .before .before .before .before .field7 .ensures)))
+    (omega (arith, four .if4 .left, staff .wide .ensures .0, staff .before .field3 .ensures, four .before .wide2 .ensures .0))
+    (omega (arith, staff .wide .ensures, staff .before .field3 .ensures))
+    (omega (arith, six .if6 .left, door .wide3 .ensures .0, door .before .field5 .ensures, six .before .wide4 .ensures .0))
+    (omega (arith, door .wide3 .ensures, door .before .field5 .ensures))
+    (omega (arith, c .if8 .left, quarter .wide5 .ensures .0, quarter .before .field7 .ensures, c .before .wide6 .ensures .0))
+    (omega (arith, quarter .wide5 .ensures, quarter .before .field7 .ensures)))
 
 pub is-hit-spec : {M : Type 1} → statement M
 is-hit-spec =

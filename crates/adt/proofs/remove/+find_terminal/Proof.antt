@@ -47,13 +47,27 @@ find-terminal-returns : (t : ℕ) → find-terminal-lts.Need-returns (calls t) (
 find-terminal-returns t c = follow-terminal _ _ _ _ _ _ _ _ (c .before .before .before .next-link .ensures .0) (c .before .wide .ensures .0) (c .if1 .taken)
 
 find-terminal-returns-2 : (t : ℕ) → find-terminal-lts.Need-returns-2 (calls t) (find-terminal-at t) find-terminal.Post
-find-terminal-returns-2 t c = follow-deep _ _ _ _ _ _ _ _ (c .before .before .before .before .next-link .ensures .0) (c .before .before .wide .ensures .0) (c .before .if1 .left) (c .if2 .taken)
+find-terminal-returns-2 t c =
+    let one = c .before in
+    let read = one .before in
+    follow-deep _ _ _ _ _ _ _ _ (read .before .before .next-link .ensures .0) (read .wide .ensures .0) (one .if1 .left) (c .if2 .taken)
 
 find-terminal-returns-3 : (t : ℕ) → find-terminal-lts.Need-returns-3 (calls t) (find-terminal-at t) find-terminal.Post
-find-terminal-returns-3 t c = follow-above _ _ _ _ _ _ _ _ (c .before .before .before .before .before .next-link .ensures .0) (c .before .before .before .wide .ensures .0) (c .before .before .if1 .left) (c .before .if2 .left) (c .if3 .taken)
+find-terminal-returns-3 t c =
+    let two = c .before in
+    let one = two .before in
+    let read = one .before in
+    follow-above _ _ _ _ _ _ _ _ (read .before .before .next-link .ensures .0) (read .wide .ensures .0)
+    (one .if1 .left) (two .if2 .left) (c .if3 .taken)
 
 find-terminal-returns-4 : (t : ℕ) → find-terminal-lts.Need-returns-4 (calls t) (find-terminal-at t) find-terminal.Post
-find-terminal-returns-4 t c = follow-full _ _ _ _ _ _ _ _ (c .before .before .before .before .before .before .next-link .ensures .0) (c .before .before .before .before .wide .ensures .0) (c .before .before .before .if1 .left) (c .before .before .if2 .left) (c .before .if3 .left) (c .if4 .taken)
+find-terminal-returns-4 t c =
+    let three = c .before in
+    let two = three .before in
+    let one = two .before in
+    let read = one .before in
+    follow-full _ _ _ _ _ _ _ _ (read .before .before .next-link .ensures .0) (read .wide .ensures .0)
+    (one .if1 .left) (two .if2 .left) (three .if3 .left) (c .if4 .taken)
 
 find-terminal-sub-find-terminal : (t : ℕ) → find-terminal-lts.Need-sub-find-terminal (calls t) (find-terminal-at t) find-terminal.Post
 find-terminal-sub-find-terminal t c = search needs
@@ -65,7 +79,15 @@ find-terminal-find-terminal-requires : (t : ℕ) → find-terminal-lts.Need-find
 find-terminal-find-terminal-requires t c κs = search needs
 
 find-terminal-returns-5 : (t : ℕ) → find-terminal-lts.Need-returns-5 (calls t) (find-terminal-at t) find-terminal.Post
-find-terminal-returns-5 t c = c .find-terminal .ensures ∙ follow-next _ _ _ _ _ _ _ _ (c .before .before .before .before .before .before .before .next-link .ensures .0) (c .before .before .before .before .before .wide .ensures .0) (c .before .before .before .before .if1 .left) (c .before .before .before .if2 .left) (c .before .before .if3 .left) (c .before .if4 .left)
+find-terminal-returns-5 t c =
+    let four = c .before in
+    let three = four .before in
+    let two = three .before in
+    let one = two .before in
+    let read = one .before in
+    c .find-terminal .ensures
+    ∙ follow-next _ _ _ _ _ _ _ _ (read .before .before .next-link .ensures .0) (read .wide .ensures .0)
+    (one .if1 .left) (two .if2 .left) (three .if3 .left) (four .if4 .left)
 
 pub +find-terminal-spec : {M : Type 1} → statement M
 +find-terminal-spec = close μ-find-terminal λ t. find-terminal-lts.spec (

@@ -17,10 +17,15 @@ place-of-requires-2 : tie.Need-place-of-requires-2
 place-of-requires-2 c κs = search needs
 
 returns : tie.Need-returns
-returns c = (next-right (c .before .before .before .before .before .args .pool .now) _ _ (c .before .before .before .place-of .ensures .0) (c .before .if1 .taken) (c .place-of2 .ensures .0), c .place-of2 .ensures .1)
+returns c =
+    let left = c .before .before .before in
+    let right = c .place-of2 .ensures in
+    (next-right (left .before .before .args .pool .now) _ _ (left .place-of .ensures .0) (c .before .if1 .taken) (right .0), right .1)
 
 returns-2 : tie.Need-returns-2
-returns-2 c = (next-left (c .before .before .before .before .args .pool .now) _ _ (c .before .before .place-of .ensures .0) (c .if1 .left), c .before .before .place-of .ensures .1)
+returns-2 c =
+    let left = c .before .before in
+    (next-left (left .before .before .args .pool .now) _ _ (left .place-of .ensures .0) (c .if1 .left), left .place-of .ensures .1)
 
 pub next-link-spec : {M : Type 1} → statement M
 next-link-spec =

@@ -1,9 +1,8 @@
 -- `remove::remove` meets its contract, for a terminal cell and for another. Assumes nothing.
-use Rattle.adt.proofs.DescentSteps.{length-freed}
-use Rattle.adt.proofs.DescentSteps.{remove-terminal, remove-other}
+use Rattle.adt.proofs.DescentSteps.{length-freed, remove-terminal, remove-other}
 use lib.ListN.{length, length-set}
 use native.Mathlib.Omega.{arith}
-use mathlib.Core.Path.{_≡_, sym, ap, _∙_}
+use mathlib.Core.Path.{ap}
 use borrow.Author.Needs.{needs}
 use Rattle.adt.proofs.remove.remove.Statement.{statement}
 use Rattle.adt.proofs.remove.remove.Tie as tie
@@ -21,7 +20,9 @@ same-length : tie.Need-same-length
 same-length c = omega (arith, simp (length-freed, length-set) at (ap length (c .before .before .free .ensures)))
 
 returns : tie.Need-returns
-returns c = remove-terminal (c .before .before .before .before .before .before .args .pool .now) _ _ _ _ (c .before .before .before .before .if1 .taken) (c .before .before .free .ensures)
+returns c =
+    let one = c .before .before .before .before in
+    remove-terminal (one .before .before .args .pool .now) _ _ _ _ (one .if1 .taken) (c .before .before .free .ensures)
 
 replace-requires : tie.Need-replace-requires
 replace-requires c κs = search needs
@@ -33,7 +34,10 @@ same-length-2 : tie.Need-same-length-2
 same-length-2 c = search needs
 
 returns-2 : tie.Need-returns-2
-returns-2 c = remove-other (c .before .before .before .before .before .before .before .before .before .before .args .pool .now) _ _ _ _ (c .before .before .before .before .before .before .before .before .if1 .left) (c .before .before .before .before .before .before .replace .ensures) (c .before .before .free2 .ensures)
+returns-2 c =
+    let moved = c .before .before .before .before .before .before in
+    let one = moved .before .before in
+    remove-other (one .before .before .args .pool .now) _ _ _ _ (one .if1 .left) (moved .replace .ensures) (c .before .before .free2 .ensures)
 
 pub remove-spec : {M : Type 1} → statement M
 remove-spec =

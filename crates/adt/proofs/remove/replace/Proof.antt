@@ -2,7 +2,7 @@
 use Rattle.adt.proofs.DescentSteps.{replace-steps}
 use lib.ListN.{length, length-set}
 use native.Mathlib.Omega.{arith}
-use mathlib.Core.Path.{_≡_, sym, ap, _∙_}
+use mathlib.Core.Path.{ap}
 use borrow.Author.Needs.{needs}
 use Rattle.adt.proofs.remove.replace.Statement.{statement}
 use Rattle.adt.proofs.remove.replace.Tie as tie
@@ -24,8 +24,10 @@ set-field-requires c κs = search needs
 
 set-field-requires-2 : tie.Need-set-field-requires-2
 set-field-requires-2 c κs =
-    let t = c .before .before .before .before .before .before .before .before .before .before .pre .terminal in
-    (t .some, t .few, omega (arith, simp length-set at (ap length (c .before .before .before .set-field .ensures)), t .long))
+    let left = c .before .before .before in
+    let t = left .before .before .before .before .before .before .before .pre .terminal in
+    let kept = simp length-set at (ap length (left .set-field .ensures)) in
+    record { some = t .some; few = t .few; long = omega (arith, kept, t .long) }
 
 cast-pool : tie.Need-cast-pool
 cast-pool c = search needs
@@ -35,15 +37,30 @@ mul-pool-2 c = search needs
 
 slice-write-pool-2 : tie.Need-slice-write-pool-2
 slice-write-pool-2 c =
-    omega (arith, simp length-set at (ap length (c .before .before .set-field2 .ensures)), simp length-set at (ap length (c .before .before .before .before .before .before .set-field .ensures)), c .before .before .before .before .before .before .before .before .before .before .before .before .before .pre .at)
+    let right = c .before .before in
+    let left = right .before .before .before .before in
+    let start = left .before .before .before .before .before .before .before in
+    let kept = simp length-set at (ap length (left .set-field .ensures)) in
+    omega (arith, simp length-set at (ap length (right .set-field2 .ensures)), kept, start .pre .at)
 
 same-length : tie.Need-same-length
 same-length c =
-    omega (arith, length-set (c .before .before .set-field2 .last .0) (c .before .before .before .before .before .before .before .before .before .before .before .before .before .args .link) (c .before .before .before .before .before .before .before .before .before .before .before .before .before .args .leaf), simp length-set at (ap length (c .before .before .set-field2 .ensures)), simp length-set at (ap length (c .before .before .before .before .before .before .set-field .ensures)))
+    let right = c .before .before in
+    let left = right .before .before .before .before in
+    let start = left .before .before .before .before .before .before .before in
+    let kept = simp length-set at (ap length (left .set-field .ensures)) in
+    let linked = length-set (right .set-field2 .last .0) (start .args .link) (start .args .leaf) in
+    omega (arith, linked, simp length-set at (ap length (right .set-field2 .ensures)), kept)
 
 returns : tie.Need-returns
 returns c =
-    replace-steps (c .before .before .before .before .before .before .before .before .before .before .before .before .before .args .pool .now) _ _ _ (c .before .before .before .before .before .before .before .before .before .before .before .before .before .args .cut) (c .before .before .before .before .before .before .before .before .before .before .field .ensures) (c .before .before .before .before .before .before .before .before .field2 .ensures) (c .before .before .before .before .before .before .set-field .ensures) (c .before .before .set-field2 .ensures)
+    let right = c .before .before in
+    let left = right .before .before .before .before in
+    let second = left .before .before in
+    let first = second .before .before in
+    let start = first .before .before .before in
+    replace-steps (start .args .pool .now) _ _ _ (start .args .cut) (first .field .ensures) (second .field2 .ensures)
+    (left .set-field .ensures) (right .set-field2 .ensures)
 
 pub replace-spec : {M : Type 1} → statement M
 replace-spec =

@@ -9,7 +9,9 @@ use Rattle.geometry.specs.Axis.{axes, axisOf, axisAfter}
 use Rattle.geometry.specs.Levels.{levels}
 use Rattle.geometry.specs.Region.{Region, Shape, meets}
 use Rattle.geometry.proofs.NarrowLaws.{narrow-shape}
-use Rattle.adt.proofs.EnterSteps.{child-meets, child-blank, child-deep, child-before, child-behind, child-past, child-visited, visit-in, visit-cut, visit-left-cut, visit-whole}
+use Rattle.adt.specs.Search.{Spot}
+use Rattle.adt.proofs.EnterSteps.{child-meets, child-blank, child-deep, child-before, child-behind, child-past, child-visited}
+use Rattle.adt.proofs.EnterSteps.{visit-in, visit-cut, visit-left-cut, visit-whole}
 use borrow.Author.Needs.{needs}
 use borrow.Fn.Kinds.{In}
 use borrow.Fn.PlainCycle.{Measures, is, falls, and}
@@ -51,7 +53,22 @@ abbrev enter-calls : ℕ → enter-lts.Claims
 enter-calls t = (wide-reads.Asked, wide-reads.Learnt, visit-below t, visit.Post)
 
 abbrev visit-calls : ℕ → visit-lts.Claims
-visit-calls t = (narrow-reads.Asked, narrow-reads.Learnt, axis-after-reads.Asked, axis-after-reads.Learnt, test-reads.Asked, test-reads.Learnt, place-of-reads.Asked, place-of-reads.Learnt, lower-end-reads.Asked, lower-end-reads.Learnt, enter-below t, enter.Post, upper-start-reads.Asked, upper-start-reads.Learnt)
+visit-calls t = (
+  narrow-reads.Asked,
+  narrow-reads.Learnt,
+  axis-after-reads.Asked,
+  axis-after-reads.Learnt,
+  test-reads.Asked,
+  test-reads.Learnt,
+  place-of-reads.Asked,
+  place-of-reads.Learnt,
+  lower-end-reads.Asked,
+  lower-end-reads.Learnt,
+  enter-below t,
+  enter.Post,
+  upper-start-reads.Asked,
+  upper-start-reads.Learnt,
+)
 
 axis-is : {a : ℕ} (level : ℕ) → a ≡ axisOf level → a < axes
 axis-is level e = omega (arith, e)
@@ -73,14 +90,20 @@ enter-returns t c =
     let start = c .before .before .before .before in
     let a = start .args in
     let p = start .pre .1 in
-    child-blank (a .pool .now) (a .cells) (a .range .now) (a .below) (a .link) (c .before .wide .ensures .0) (a .region) (a .axis) (a .low) (a .high) (p .4) (axis-is (levels - a .below) (p .5)) (p .6) (p .0 .counted) (c .if1 .taken)
+    child-blank (a .pool .now) (a .cells) (a .range .now) (a .below) (a .link) (c .before .wide .ensures .0)
+    (a .region) (a .axis) (a .low) (a .high) (p .4) (axis-is (levels - a .below) (p .5)) (p .6)
+    (p .0 .counted) (c .if1 .taken)
 
 enter-returns-2 : (t : ℕ) → enter-lts.Need-returns-2 (enter-calls t) (enter-at t) enter.Post
 enter-returns-2 t c =
-    let start = c .before .before .before .before .before in
+    let one = c .before in
+    let read = one .before in
+    let start = read .before .before .before in
     let a = start .args in
     let p = start .pre .1 in
-    child-deep (a .pool .now) (a .cells) (a .range .now) (a .below) (a .link) (c .before .before .wide .ensures .0) (a .region) (a .axis) (a .low) (a .high) (p .4) (axis-is (levels - a .below) (p .5)) (p .6) (p .0 .counted) (c .before .if1 .left) (c .if2 .taken)
+    child-deep (a .pool .now) (a .cells) (a .range .now) (a .below) (a .link) (read .wide .ensures .0)
+    (a .region) (a .axis) (a .low) (a .high) (p .4) (axis-is (levels - a .below) (p .5)) (p .6) (p .0 .counted)
+    (one .if1 .left) (c .if2 .taken)
 
 enter-mul-if3 : (t : ℕ) → enter-lts.Need-mul-if3 (enter-calls t) (enter-at t) enter.Post
 enter-mul-if3 t c = search needs
@@ -93,10 +116,15 @@ enter-index-2-if3 t c = search needs
 
 enter-returns-3 : (t : ℕ) → enter-lts.Need-returns-3 (enter-calls t) (enter-at t) enter.Post
 enter-returns-3 t c =
-    let start = c .before .before .before .before .before .before .before in
+    let two = c .before .before in
+    let one = two .before in
+    let read = one .before in
+    let start = read .before .before .before in
     let a = start .args in
     let p = start .pre .1 in
-    child-before (a .pool .now) (a .cells) (a .range .now) (a .below) (a .link) (c .before .before .before .before .wide .ensures .0) (a .region) (a .axis) (a .low) (a .high) (p .4) (axis-is (levels - a .below) (p .5)) (p .6) (p .0 .counted) (c .before .before .before .if1 .left) (c .before .before .if2 .left) (c .if3 .taken)
+    child-before (a .pool .now) (a .cells) (a .range .now) (a .below) (a .link) (read .wide .ensures .0)
+    (a .region) (a .axis) (a .low) (a .high) (p .4) (axis-is (levels - a .below) (p .5)) (p .6) (p .0 .counted)
+    (one .if1 .left) (two .if2 .left) (c .if3 .taken)
 
 enter-mul-if4 : (t : ℕ) → enter-lts.Need-mul-if4 (enter-calls t) (enter-at t) enter.Post
 enter-mul-if4 t c = search needs
@@ -109,35 +137,64 @@ enter-index-2-if4 t c = search needs
 
 enter-returns-4 : (t : ℕ) → enter-lts.Need-returns-4 (enter-calls t) (enter-at t) enter.Post
 enter-returns-4 t c =
-    let start = c .before .before .before .before .before .before .before .before .before in
+    let three = c .before .before in
+    let two = three .before .before in
+    let one = two .before in
+    let read = one .before in
+    let start = read .before .before .before in
     let a = start .args in
     let p = start .pre .1 in
-    child-behind (a .pool .now) (a .cells) (a .range .now) (a .below) (a .link) (c .before .before .before .before .before .before .wide .ensures .0) (a .region) (a .axis) (a .low) (a .high) (p .4) (axis-is (levels - a .below) (p .5)) (p .6) (p .0 .counted) (c .before .before .before .before .before .if1 .left) (c .before .before .before .before .if2 .left) (c .before .before .if3 .left) (c .if4 .taken)
+    child-behind (a .pool .now) (a .cells) (a .range .now) (a .below) (a .link) (read .wide .ensures .0)
+    (a .region) (a .axis) (a .low) (a .high) (p .4) (axis-is (levels - a .below) (p .5)) (p .6) (p .0 .counted)
+    (one .if1 .left) (two .if2 .left) (three .if3 .left) (c .if4 .taken)
 
 enter-returns-5 : (t : ℕ) → enter-lts.Need-returns-5 (enter-calls t) (enter-at t) enter.Post
 enter-returns-5 t c =
-    let start = c .before .before .before .before .before .before .before .before .before .before in
+    let four = c .before in
+    let three = four .before .before in
+    let two = three .before .before in
+    let one = two .before in
+    let read = one .before in
+    let start = read .before .before .before in
     let a = start .args in
     let p = start .pre .1 in
-    child-past (a .pool .now) (a .cells) (a .range .now) (a .below) (a .link) (c .before .before .before .before .before .before .before .wide .ensures .0) (a .region) (a .axis) (a .low) (a .high) (p .4) (axis-is (levels - a .below) (p .5)) (p .6) (p .0 .counted) (c .before .before .before .before .before .before .if1 .left) (c .before .before .before .before .before .if2 .left) (c .before .before .before .if3 .left) (c .before .if4 .left) (c .if5 .taken)
+    child-past (a .pool .now) (a .cells) (a .range .now) (a .below) (a .link) (read .wide .ensures .0)
+    (a .region) (a .axis) (a .low) (a .high) (p .4) (axis-is (levels - a .below) (p .5)) (p .6) (p .0 .counted)
+    (one .if1 .left) (two .if2 .left) (three .if3 .left) (four .if4 .left) (c .if5 .taken)
 
 enter-sub-visit : (t : ℕ) → enter-lts.Need-sub-visit (enter-calls t) (enter-at t) enter.Post
 enter-sub-visit t c = search needs
 
 enter-visit-requires : (t : ℕ) → enter-lts.Need-visit-requires (enter-calls t) (enter-at t) enter.Post
 enter-visit-requires t c κs =
-    let start = c .before .before .before .before .before .before .before .before .before .before .before .before in
+    let five = c .before .before in
+    let four = five .before in
+    let three = four .before .before in
+    let read = three .before .before .before .before in
+    let start = read .before .before .before in
     let a = start .args in
     let p = start .pre .1 in
-    let met = child-meets (a .pool .now) (a .cells) (a .range .now) (a .below) (a .link) (c .before .before .before .before .before .before .before .before .before .wide .ensures .0) (a .region) (a .axis) (a .low) (a .high) (p .4) (axis-is (levels - a .below) (p .5)) (p .6) (c .before .before .before .before .before .if3 .left) (c .before .before .before .if4 .left) in
-    (omega arith, (p .0, omega arith, omega arith, c .before .before .if5 .left, p .3, p .4, axis-is (levels - a .below) (p .5), axis-next (a .below) (p .5) (omega arith) (p .1), met))
+    let met = child-meets (a .pool .now) (a .cells) (a .range .now) (a .below) (a .link) (read .wide .ensures .0)
+    (a .region) (a .axis) (a .low) (a .high) (p .4) (axis-is (levels - a .below) (p .5)) (p .6)
+    (three .if3 .left) (four .if4 .left) in
+    let axis = axis-is (levels - a .below) (p .5) in
+    let next = axis-next (a .below) (p .5) (omega arith) (p .1) in
+    (omega arith, (p .0, omega arith, omega arith, five .if5 .left, p .3, p .4, axis, next, met))
 
 enter-returns-6 : (t : ℕ) → enter-lts.Need-returns-6 (enter-calls t) (enter-at t) enter.Post
 enter-returns-6 t c =
-    let start = c .before .before .before .before .before .before .before .before .before .before .before .before .before in
+    let five = c .before .before .before in
+    let four = five .before in
+    let three = four .before .before in
+    let two = three .before .before in
+    let one = two .before in
+    let read = one .before in
+    let start = read .before .before .before in
     let a = start .args in
     let p = start .pre .1 in
-    child-visited (a .pool .now) (a .cells) (a .range .now) (a .below) (a .link) (c .before .before .before .before .before .before .before .before .before .before .wide .ensures .0) (a .region) (a .axis) (a .low) (a .high) (p .4) (axis-is (levels - a .below) (p .5)) (p .6) (p .0 .counted) (c .before .before .before .before .before .before .before .before .before .if1 .left) (c .before .before .before .before .before .before .before .before .if2 .left) (c .before .before .before .before .before .before .if3 .left) (c .before .before .before .before .if4 .left) (c .before .before .before .if5 .left) (c .visit .ensures)
+    child-visited (a .pool .now) (a .cells) (a .range .now) (a .below) (a .link) (read .wide .ensures .0)
+    (a .region) (a .axis) (a .low) (a .high) (p .4) (axis-is (levels - a .below) (p .5)) (p .6) (p .0 .counted)
+    (one .if1 .left) (two .if2 .left) (three .if3 .left) (four .if4 .left) (five .if5 .left) (c .visit .ensures)
 
 visit-narrow-requires : (t : ℕ) → visit-lts.Need-narrow-requires (visit-calls t) (visit-at t) visit.Post
 visit-narrow-requires t c κs = search needs
@@ -153,10 +210,9 @@ visit-test-requires t c κs = search needs
 
 visit-returns : (t : ℕ) → visit-lts.Need-returns (visit-calls t) (visit-at t) visit.Post
 visit-returns t c =
-    let start = c .before .before .before .before .before .before .before in
-    let a = start .args in
-    let p = start .pre .1 in
-    visit-cut (a .pool .now) (a .cells) (a .range .now) (a .below) (record { level = levels - a .below; link = a .link }) (a .k) _ _ (c .before .test .ensures) (not-true _ (c .if1 .taken))
+    let a = c .before .before .before .before .before .before .before .args in
+    let here : Spot = record { level = levels - a .below; link = a .link } in
+    visit-cut (a .pool .now) (a .cells) (a .range .now) (a .below) here (a .k) _ _ (c .before .test .ensures) (not-true _ (c .if1 .taken))
 
 visit-mul-from : (t : ℕ) → visit-lts.Need-mul-from (visit-calls t) (visit-at t) visit.Post
 visit-mul-from t c = search needs
@@ -184,27 +240,43 @@ visit-lower-end-requires t c κs = search needs
 
 visit-enter-requires : (t : ℕ) → visit-lts.Need-enter-requires (visit-calls t) (visit-at t) visit.Post
 visit-enter-requires t c κs =
-    let start = c .before .before .before .before .before .before .before .before .before .before .before .before .before in
-    let a = start .args in
-    let p = start .pre .1 in
     let tested = c .before .before .before .before .before .before .before in
     let axed = tested .before .before .before in
     let own = axed .before in
+    let start = own .before .before in
+    let a = start .args in
+    let p = start .pre .1 in
     let shape = subst Shape (sym (own .narrow .ensures)) (narrow-shape (a .parent) (a .halved) (a .low) (a .high) (p .5) (p .6)) in
-    let met = subst (λ (g : Region). meets g (a .range .now) ≡ true) (sym (own .narrow .ensures)) (p .8) in
-    (omega arith, (record { few = p .0 .few; long = p .0 .long; counted = tested .test .ensures .counted }, p .1, omega (arith, c .before .before .before .place-of .ensures .1, p .3, p .0 .long), p .4, shape, axed .axis-after .ensures ∙ p .7, met))
+    let met = subst (λ (g : Region). meets g (a .range .now) ≡ true) (sym (own .narrow .ensures)) (p .8) in (
+      omega arith,
+      (
+        record { few = p .0 .few; long = p .0 .long; counted = tested .test .ensures .counted },
+        p .1,
+        omega (arith, c .before .before .before .place-of .ensures .1, p .3, p .0 .long),
+        p .4,
+        shape,
+        axed .axis-after .ensures ∙ p .7,
+        met,
+      ),
+    )
 
 visit-returns-2 : (t : ℕ) → visit-lts.Need-returns-2 (visit-calls t) (visit-at t) visit.Post
 visit-returns-2 t c =
-    let start = c .before .before .before .before .before .before .before .before .before .before .before .before .before .before .before in
-    let a = start .args in
-    let p = start .pre .1 in
-    let tested = c .before .before .before .before .before .before .before .before .before in
+    let below = c .before .before .before .before in
+    let one = below .before .before .before .before in
+    let tested = one .before in
     let axed = tested .before .before .before in
     let own = axed .before in
+    let start = own .before .before in
+    let a = start .args in
+    let p = start .pre .1 in
     let shape = subst Shape (sym (own .narrow .ensures)) (narrow-shape (a .parent) (a .halved) (a .low) (a .high) (p .5) (p .6)) in
-    visit-in (a .pool .now) (a .cells) (a .range .now) (a .below) (record { level = levels - a .below; link = a .link }) (a .k) _ _ (own .narrow .ensures)
-    (visit-left-cut (a .pool .now) (a .cells) (a .range .now) (a .below) (record { level = levels - a .below; link = a .link }) (a .k) _ _ shape (axed .axis-after .ensures ∙ p .7) (axis-is (levels - a .below) (axed .axis-after .ensures ∙ p .7)) refl refl (tested .test .ensures) (not-false _ (c .before .before .before .before .before .before .before .before .if1 .left)) (c .before .before .before .before .before .place-of .ensures .0) (c .before .before .before .before .lower-end .ensures) (c .before .enter .ensures) (not-true _ (c .if2 .taken)))
+    let here : Spot = record { level = levels - a .below; link = a .link } in
+    let axis = axed .axis-after .ensures ∙ p .7 in
+    visit-in (a .pool .now) (a .cells) (a .range .now) (a .below) here (a .k) _ _ (own .narrow .ensures)
+    (visit-left-cut (a .pool .now) (a .cells) (a .range .now) (a .below) here (a .k) _ _ shape axis (axis-is (levels - a .below) axis)
+    refl refl (tested .test .ensures) (not-false _ (one .if1 .left)) (below .before .place-of .ensures .0) (below .lower-end .ensures)
+    (c .before .enter .ensures) (not-true _ (c .if2 .taken)))
 
 visit-place-of-requires-2 : (t : ℕ) → visit-lts.Need-place-of-requires-2 (visit-calls t) (visit-at t) visit.Post
 visit-place-of-requires-2 t c κs = search needs
@@ -214,27 +286,47 @@ visit-upper-start-requires t c κs = search needs
 
 visit-enter-requires-2 : (t : ℕ) → visit-lts.Need-enter-requires-2 (visit-calls t) (visit-at t) visit.Post
 visit-enter-requires-2 t c κs =
-    let start = c .before .before .before .before .before .before .before .before .before .before .before .before .before .before .before .before .before .before .before in
-    let a = start .args in
-    let p = start .pre .1 in
-    let tested = c .before .before .before .before .before .before .before .before .before .before .before .before .before in
+    let left = c .before .before .before .before .before in
+    let tested = left .before .before .before .before .before .before .before .before in
     let axed = tested .before .before .before in
     let own = axed .before in
+    let start = own .before .before in
+    let a = start .args in
+    let p = start .pre .1 in
     let shape = subst Shape (sym (own .narrow .ensures)) (narrow-shape (a .parent) (a .halved) (a .low) (a .high) (p .5) (p .6)) in
-    let met = subst (λ (g : Region). meets g (a .range .now) ≡ true) (sym (own .narrow .ensures)) (p .8) in
-    (omega arith, (record { few = p .0 .few; long = p .0 .long; counted = c .before .before .before .before .before .enter .ensures .counted }, p .1, omega (arith, c .before .before .before .place-of2 .ensures .1, p .3, p .0 .long), p .4, shape, axed .axis-after .ensures ∙ p .7, met))
+    let met = subst (λ (g : Region). meets g (a .range .now) ≡ true) (sym (own .narrow .ensures)) (p .8) in (
+      omega arith,
+      (
+        record { few = p .0 .few; long = p .0 .long; counted = left .enter .ensures .counted },
+        p .1,
+        omega (arith, c .before .before .before .place-of2 .ensures .1, p .3, p .0 .long),
+        p .4,
+        shape,
+        axed .axis-after .ensures ∙ p .7,
+        met,
+      ),
+    )
 
 visit-returns-3 : (t : ℕ) → visit-lts.Need-returns-3 (visit-calls t) (visit-at t) visit.Post
 visit-returns-3 t c =
-    let start = c .before .before .before .before .before .before .before .before .before .before .before .before .before .before .before .before .before .before .before .before in
-    let a = start .args in
-    let p = start .pre .1 in
-    let tested = c .before .before .before .before .before .before .before .before .before .before .before .before .before .before in
+    let above = c .before .before .before in
+    let two = above .before .before in
+    let left = two .before in
+    let below = left .before .before .before in
+    let one = below .before .before .before .before in
+    let tested = one .before in
     let axed = tested .before .before .before in
     let own = axed .before in
+    let start = own .before .before in
+    let a = start .args in
+    let p = start .pre .1 in
     let shape = subst Shape (sym (own .narrow .ensures)) (narrow-shape (a .parent) (a .halved) (a .low) (a .high) (p .5) (p .6)) in
-    visit-in (a .pool .now) (a .cells) (a .range .now) (a .below) (record { level = levels - a .below; link = a .link }) (a .k) _ _ (own .narrow .ensures)
-    (visit-whole (a .pool .now) (a .cells) (a .range .now) (a .below) (record { level = levels - a .below; link = a .link }) (a .k) _ _ shape (axed .axis-after .ensures ∙ p .7) (axis-is (levels - a .below) (axed .axis-after .ensures ∙ p .7)) refl refl (tested .test .ensures) (not-false _ (c .before .before .before .before .before .before .before .before .before .before .before .before .before .if1 .left)) (c .before .before .before .before .before .before .before .before .before .before .place-of .ensures .0) (c .before .before .before .before .before .before .before .before .before .lower-end .ensures) (c .before .before .before .before .before .before .enter .ensures) (not-false _ (c .before .before .before .before .before .if2 .left)) (c .before .before .before .before .place-of2 .ensures .0) (c .before .before .before .upper-start .ensures) (c .enter2 .ensures))
+    let here : Spot = record { level = levels - a .below; link = a .link } in
+    let axis = axed .axis-after .ensures ∙ p .7 in
+    visit-in (a .pool .now) (a .cells) (a .range .now) (a .below) here (a .k) _ _ (own .narrow .ensures)
+    (visit-whole (a .pool .now) (a .cells) (a .range .now) (a .below) here (a .k) _ _ shape axis (axis-is (levels - a .below) axis)
+    refl refl (tested .test .ensures) (not-false _ (one .if1 .left)) (below .before .place-of .ensures .0) (below .lower-end .ensures)
+    (left .enter .ensures) (not-false _ (two .if2 .left)) (above .before .place-of2 .ensures .0) (above .upper-start .ensures) (c .enter2 .ensures))
 
 pub +enter+visit-spec : {M : Type 1} → statement M
 +enter+visit-spec = close μ-enter μ-visit (λ t. enter-lts.spec (enter-calls t)

@@ -32,13 +32,21 @@ meets-range-requires c κs = search needs
 
 returns-2 : tie.Need-returns-2
 returns-2 c =
-    let m = ap (λ (g : Region). meets g (c .before .before .before .before .before .before .before .before .args .range .now)) (sym (c .before .before .before .root-region .ensures)) ∙ sym (c .before .meets-range .ensures) ∙ not-true _ (c .if2 .taken) in
-    search-apart _ (c .before .before .before .before .before .before .before .before .pre .0) _ (c .before .before .before .before .before .wide .ensures .0) (c .before .before .before .before .if1 .left) m
+    let asked = c .before in
+    let rooted = asked .before .before in
+    let start = rooted .before .before .before .before .before in
+    let root = ap (λ (g : Region). meets g (start .args .range .now)) (sym (rooted .root-region .ensures)) in
+    let m = root ∙ sym (asked .meets-range .ensures) ∙ not-true _ (c .if2 .taken) in
+    search-apart _ (start .pre .0) _ (rooted .before .before .wide .ensures .0) (rooted .before .if1 .left) m
 
 returns-3 : tie.Need-returns-3
 returns-3 c =
-    let m = ap (λ (g : Region). meets g (c .before .before .before .before .before .before .before .before .before .args .range .now)) (sym (c .before .before .before .before .root-region .ensures)) ∙ sym (c .before .before .meets-range .ensures) ∙ not-false _ (c .before .if2 .left) in
-    search-above _ (c .before .before .before .before .before .before .before .before .before .pre .0) _ (c .before .before .before .before .before .before .wide .ensures .0) (c .before .before .before .before .before .if1 .left) m (c .if3 .taken)
+    let two = c .before in
+    let rooted = two .before .before .before in
+    let start = rooted .before .before .before .before .before in
+    let root = ap (λ (g : Region). meets g (start .args .range .now)) (sym (rooted .root-region .ensures)) in
+    let m = root ∙ sym (two .before .meets-range .ensures) ∙ not-false _ (two .if2 .left) in
+    search-above _ (start .pre .0) _ (rooted .before .before .wide .ensures .0) (rooted .before .if1 .left) m (c .if3 .taken)
 
 visit-requires : tie.Need-visit-requires
 visit-requires c κs =
@@ -47,16 +55,30 @@ visit-requires c κs =
     let p = start .pre .0 in
     let e = rooted .root-region .ensures in
     let m = sym (c .before .before .before .before .meets-range .ensures) ∙ not-false _ (c .before .before .before .if2 .left) in
-    let own = own-root e in
-    (record { few = p .few; long = p .long; counted = fresh-counted (start .args .range .now) p }, lit≤ tt, omega arith, c .before .before .if3 .left, start .pre .1, subst Shape (sym e) root-shape, lit< tt, refl, subst (λ (g : Region). meets g (start .args .range .now) ≡ true) (e ∙ sym own) m)
+    let own = own-root e in (
+      record { few = p .few; long = p .long; counted = fresh-counted (start .args .range .now) p },
+      lit≤ tt,
+      omega arith,
+      c .before .before .if3 .left,
+      start .pre .1,
+      subst Shape (sym e) root-shape,
+      lit< tt,
+      refl,
+      subst (λ (g : Region). meets g (start .args .range .now) ≡ true) (e ∙ sym own) m,
+    )
 
 returns-4 : tie.Need-returns-4
 returns-4 c =
     let v = c .visit .ensures in
-    let rooted = c .before .before .before .before .before .before .before in
+    let two = c .before .before .before .before in
+    let rooted = two .before .before .before in
     let start = rooted .before .before .before .before .before in
-    let m = ap (λ (g : Region). meets g (start .args .range .now)) (sym (rooted .root-region .ensures)) ∙ sym (c .before .before .before .before .before .meets-range .ensures) ∙ not-false _ (c .before .before .before .before .if2 .left) in
-    record { counted = v .counted; state = v .state ∙ search-visits _ (start .pre .0) _ (rooted .before .before .wide .ensures .0) (rooted .before .if1 .left) (own-root (rooted .root-region .ensures)) m (c .before .before .before .if3 .left) }
+    let root = ap (λ (g : Region). meets g (start .args .range .now)) (sym (rooted .root-region .ensures)) in
+    let m = root ∙ sym (two .before .meets-range .ensures) ∙ not-false _ (two .if2 .left) in
+    let own = own-root (rooted .root-region .ensures) in
+    let some = rooted .before .if1 .left in
+    let visits = search-visits _ (start .pre .0) _ (rooted .before .before .wide .ensures .0) some own m (c .before .before .before .if3 .left) in
+    record { counted = v .counted; state = v .state ∙ visits }
 
 pub search-spec : {M : Type 1} → statement M
 search-spec =

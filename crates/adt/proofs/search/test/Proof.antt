@@ -2,6 +2,7 @@
 use mathlib.Core.Path.{refl, sym, ap, _∙_}
 use Rattle.adt.proofs.SearchSteps.{test-full, test-outside, test-later, test-first}
 use mathlib.Core.Bool.{not, Bool·not-not}
+use Rattle.adt.specs.Search.{Spot}
 use borrow.Author.Needs.{needs}
 use Rattle.adt.proofs.search.test.Statement.{statement}
 use Rattle.adt.proofs.search.test.Tie as tie
@@ -14,8 +15,11 @@ element-copy-out-found c = search needs
 
 returns : tie.Need-returns
 returns c =
-    test-full (c .before .before .before .before .args .pool .now) (c .before .before .before .before .args .cells) (c .before .before .before .before .args .range .now) (record { level = c .before .before .before .before .args .level; link = c .before .before .before .before .args .link }) (c .before .before .before .before .args .k) (c .before .before .before .before .args .hits .now) (c .before .before .before .before .pre .0 .few)
-    (c .before .before .before .before .args .counters .now) (c .before .before .before .before .pre .0 .counted) (c .if1 .taken)
+    let start = c .before .before .before .before in
+    let a = start .args in
+    let here : Spot = record { level = a .level; link = a .link } in
+    test-full (a .pool .now) (a .cells) (a .range .now) here (a .k) (a .hits .now) (start .pre .0 .few)
+    (a .counters .now) (start .pre .0 .counted) (c .if1 .taken)
 
 add-counters : tie.Need-add-counters
 add-counters c = search needs
@@ -28,9 +32,13 @@ is-hit-requires c κs = search needs
 
 returns-2 : tie.Need-returns-2
 returns-2 c =
-    test-outside (c .before .before .before .before .before .before .args .pool .now) (c .before .before .before .before .before .before .args .cells) (c .before .before .before .before .before .before .args .range .now) (record { level = c .before .before .before .before .before .before .args .level; link = c .before .before .before .before .before .before .args .link }) (c .before .before .before .before .before .before .args .k) (c .before .before .before .before .before .before .args .hits .now) (c .before .before .before .before .before .before .pre .0 .few)
-    _ (c .before .before .if1 .left) (c .before .before .before .before .before .before .args .counters .now) (c .before .before .before .before .before .before .pre .0 .counted) refl
-    (sym (c .before .is-hit .ensures) ∙ sym (Bool·not-not _) ∙ ap not (c .if2 .taken))
+    let one = c .before .before in
+    let start = one .before .before .before .before in
+    let a = start .args in
+    let here : Spot = record { level = a .level; link = a .link } in
+    let outside = sym (c .before .is-hit .ensures) ∙ sym (Bool·not-not _) ∙ ap not (c .if2 .taken) in
+    test-outside (a .pool .now) (a .cells) (a .range .now) here (a .k) (a .hits .now) (start .pre .0 .few)
+    _ (one .if1 .left) (a .counters .now) (start .pre .0 .counted) refl outside
 
 add-counters-2 : tie.Need-add-counters-2
 add-counters-2 c = search needs
@@ -49,9 +57,14 @@ element-write-hits c = search needs
 
 returns-3 : tie.Need-returns-3
 returns-3 c =
-    test-later (c .before .before .before .before .before .before .before .args .pool .now) (c .before .before .before .before .before .before .before .args .cells) (c .before .before .before .before .before .before .before .args .range .now) (record { level = c .before .before .before .before .before .before .before .args .level; link = c .before .before .before .before .before .before .before .args .link }) (c .before .before .before .before .before .before .before .args .k) (c .before .before .before .before .before .before .before .args .hits .now) (c .before .before .before .before .before .before .before .pre .0 .few)
-    _ (c .before .before .before .if1 .left) _ (sym (c .before .before .is-hit .ensures) ∙ sym (Bool·not-not _) ∙ ap not (c .before .if2 .left))
-    (c .before .before .before .before .before .before .before .args .counters .now) (c .before .before .before .before .before .before .before .pre .0 .counted) refl refl (c .if3 .taken)
+    let tested = c .before .before in
+    let one = tested .before in
+    let start = one .before .before .before .before in
+    let a = start .args in
+    let here : Spot = record { level = a .level; link = a .link } in
+    let hit = sym (tested .is-hit .ensures) ∙ sym (Bool·not-not _) ∙ ap not (c .before .if2 .left) in
+    test-later (a .pool .now) (a .cells) (a .range .now) here (a .k) (a .hits .now) (start .pre .0 .few)
+    _ (one .if1 .left) _ hit (a .counters .now) (start .pre .0 .counted) refl refl (c .if3 .taken)
 
 element-write-counters-3 : tie.Need-element-write-counters-3
 element-write-counters-3 c = search needs
@@ -61,9 +74,14 @@ element-write-counters-4 c = search needs
 
 returns-4 : tie.Need-returns-4
 returns-4 c =
-    test-first (c .before .before .before .before .before .before .before .args .pool .now) (c .before .before .before .before .before .before .before .args .cells) (c .before .before .before .before .before .before .before .args .range .now) (record { level = c .before .before .before .before .before .before .before .args .level; link = c .before .before .before .before .before .before .before .args .link }) (c .before .before .before .before .before .before .before .args .k) (c .before .before .before .before .before .before .before .args .hits .now) (c .before .before .before .before .before .before .before .pre .0 .few)
-    _ (c .before .before .before .if1 .left) _ (sym (c .before .before .is-hit .ensures) ∙ sym (Bool·not-not _) ∙ ap not (c .before .if2 .left))
-    (c .before .before .before .before .before .before .before .args .counters .now) (c .before .before .before .before .before .before .before .pre .0 .counted) refl refl (c .if3 .left)
+    let tested = c .before .before in
+    let one = tested .before in
+    let start = one .before .before .before .before in
+    let a = start .args in
+    let here : Spot = record { level = a .level; link = a .link } in
+    let hit = sym (tested .is-hit .ensures) ∙ sym (Bool·not-not _) ∙ ap not (c .before .if2 .left) in
+    test-first (a .pool .now) (a .cells) (a .range .now) here (a .k) (a .hits .now) (start .pre .0 .few)
+    _ (one .if1 .left) _ hit (a .counters .now) (start .pre .0 .counted) refl refl (c .if3 .left)
 
 pub test-spec : {M : Type 1} → statement M
 test-spec =

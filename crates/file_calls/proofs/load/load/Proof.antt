@@ -64,8 +64,7 @@ make-fresh-requires : tie.Need-make-fresh-requires
 make-fresh-requires c κs =
     let some = c .before .before .before .before .before .before in
     let start = some .before .before .before .before .before in
-    let t = length-taken (start .args .pool .now) (some .before .length-capacity .ensures) (some .if1 .left) in
-    (t .some, t .few, t .long)
+    length-taken (start .args .pool .now) (some .before .length-capacity .ensures) (some .if1 .left) .sized
 
 add-all-requires : tie.Need-add-all-requires
 add-all-requires c κs =
@@ -76,8 +75,8 @@ add-all-requires c κs =
     let some = judged .before in
     let start = some .before .before .before .before .before in
     let t = length-taken (start .args .pool .now) (some .before .length-capacity .ensures) (some .if1 .left) in
-    let size = made .make-fresh .kept .0 ∙ t .long in (
-      record { some = t .some; few = t .few; long = size },
+    let size = made .make-fresh .kept .0 ∙ t .sized .long in (
+      record { some = t .sized .some; few = t .sized .few; long = size },
       load-accepted (start .args .pool .now) _ (some .before .length-capacity .ensures) (some .if1 .left) (judged .judge .ensures) (told .enum-told .given .1),
       counted .total-in .ensures .0,
     )

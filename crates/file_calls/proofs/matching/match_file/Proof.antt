@@ -57,7 +57,8 @@ find-hits-requires c κs =
     let taken = c .before .before .before .before .before in
     let some = taken .before .before .before in
     let t = pool-taken _ (some .before .capacity .ensures) (some .if1 .left) in
-    (t .few, t .long, refl, subst OneSided (sym (c .before .before .range-of-doors .ensures)) (doors-one-sided _))
+    let range = c .before .before .range-of-doors .ensures in
+    record { sized = t .sized; one-sided = subst OneSided (sym range) (doors-one-sided _); room = refl }
 
 enum-known-found : tie.Need-enum-known-found
 enum-known-found c = search needs

@@ -44,8 +44,7 @@ write-record-requires : tie.Need-write-record-requires Inv-loop μ-loop
 write-record-requires c κs =
     let at = c .before .before .before .before in
     let start = at .before .before .before in
-    let cell = cell-hit (start .pre .0) (omega arith) (c .before .wide .ensures .0) in
-    (cell .0, cell .1, cell .2, omega (arith, at .loop .inv .2, start .pre .1))
+    (cell-hit (start .pre .0) (omega arith) (c .before .wide .ensures .0), omega (arith, at .loop .inv .2, start .pre .1))
 
 add-i : tie.Need-add-i Inv-loop μ-loop
 add-i c = search needs

@@ -31,8 +31,10 @@ insert-requires : tie.Need-insert-requires
 insert-requires c κs =
     let planned = c .before .before .before .before in
     let kinded = planned .before in
-    let start = kinded .before .before .before in
-    plan-inserts (start .args .pool .now) (requestOf (start .args .g)) _ _ _ _ (planned-as (start .args .pool .now) (same-request (start .args .g) (kinded .kind-number .ensures .0)) (c .before .before .plan .given .1) (planned .plan-slot .ensures))
+    let a = kinded .before .before .before .args in
+    let same = same-request (a .g) (kinded .kind-number .ensures .0) in
+    plan-inserts (a .pool .now) (requestOf (a .g)) _ _ _ _
+    (planned-as (a .pool .now) same (c .before .before .plan .given .1) (planned .plan-slot .ensures))
 
 same-length : tie.Need-same-length
 same-length c = search needs
@@ -41,8 +43,9 @@ returns : tie.Need-returns
 returns c =
     let planned = c .before .before in
     let kinded = planned .before in
-    let start = kinded .before .before .before in
-    added-refused (start .args .pool .now) (requestOf (start .args .g)) _ (planned-as (start .args .pool .now) (same-request (start .args .g) (kinded .kind-number .ensures .0)) (c .enum-told .given .1) (planned .plan-slot .ensures))
+    let a = kinded .before .before .before .args in
+    let same = same-request (a .g) (kinded .kind-number .ensures .0) in
+    added-refused (a .pool .now) (requestOf (a .g)) _ (planned-as (a .pool .now) same (c .enum-told .given .1) (planned .plan-slot .ensures))
 
 same-length-2 : tie.Need-same-length-2
 same-length-2 c = search needs
@@ -50,12 +53,13 @@ same-length-2 c = search needs
 returns-2 : tie.Need-returns-2
 returns-2 c =
     let stored = c .before .before in
-    let planned = stored .before .before .before .before .before in
+    let told = stored .before .before .before in
+    let planned = told .before .before in
     let kinded = planned .before in
-    let start = kinded .before .before .before in
-    let g = start .args .g in
-    added-done (start .args .pool .now) (requestOf g) _ _ _ (planned-as (start .args .pool .now) (same-request g (kinded .kind-number .ensures .0)) (stored .before .before .before .plan .given .1) (planned .plan-slot .ensures))
-    (stored .insert .ensures ∙ ap (inserted (start .args .pool .now) _) (sym (requested-requestOf g)))
+    let a = kinded .before .before .before .args in
+    let same = same-request (a .g) (kinded .kind-number .ensures .0) in
+    added-done (a .pool .now) (requestOf (a .g)) _ _ _ (planned-as (a .pool .now) same (told .plan .given .1) (planned .plan-slot .ensures))
+    (stored .insert .ensures ∙ ap (inserted (a .pool .now) _) (sym (requested-requestOf (a .g))))
 
 pub add-spec : {M : Type 1} → statement M
 add-spec =

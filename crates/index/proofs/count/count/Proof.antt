@@ -19,8 +19,9 @@ root-region-requires c κs = search needs
 
 find-hits-requires : tie.Need-find-hits-requires
 find-hits-requires c κs =
-    let t = pool-taken _ (c .before .before .before .before .capacity .ensures) (c .before .before .before .if1 .left) in
-    (t .few, t .long, refl, subst OneSided (sym (c .before .before .root-region .ensures)) all-one-sided)
+    let tested = c .before .before .before in
+    let t = pool-taken _ (tested .before .capacity .ensures) (tested .if1 .left) in
+    record { sized = t .sized; one-sided = subst OneSided (sym (c .before .before .root-region .ensures)) all-one-sided; room = refl }
 
 enum-known-live : tie.Need-enum-known-live
 enum-known-live c = search needs
@@ -34,7 +35,8 @@ returns-2 c =
     let ranged = searched .before .before .before in
     let tested = ranged .before in
     let start = tested .before .before .before in
-    count-broken (start .args .pool .now) (tested .before .capacity .ensures) (tested .if1 .left) (ranged .root-region .ensures) _ (searched .find-hits .ensures) (c .enum-told .given .1)
+    count-broken (start .args .pool .now) (tested .before .capacity .ensures) (tested .if1 .left)
+    (ranged .root-region .ensures) _ (searched .find-hits .ensures) (c .enum-told .given .1)
 
 sub-t13 : tie.Need-sub-t13
 sub-t13 c =
@@ -42,7 +44,8 @@ sub-t13 c =
     let ranged = searched .before .before .before in
     let tested = ranged .before in
     let start = tested .before .before .before in
-    count-few (start .args .pool .now) (tested .before .capacity .ensures) (tested .if1 .left) (ranged .root-region .ensures) _ (searched .find-hits .ensures) (c .before .live .given .1)
+    count-few (start .args .pool .now) (tested .before .capacity .ensures) (tested .if1 .left)
+    (ranged .root-region .ensures) _ (searched .find-hits .ensures) (c .before .live .given .1)
 
 returns-3 : tie.Need-returns-3
 returns-3 c =
@@ -50,7 +53,8 @@ returns-3 c =
     let ranged = searched .before .before .before in
     let tested = ranged .before in
     let start = tested .before .before .before in
-    count-done (start .args .pool .now) (tested .before .capacity .ensures) (tested .if1 .left) (ranged .root-region .ensures) _ (searched .find-hits .ensures) (c .before .live .given .1)
+    count-done (start .args .pool .now) (tested .before .capacity .ensures) (tested .if1 .left)
+    (ranged .root-region .ensures) _ (searched .find-hits .ensures) (c .before .live .given .1)
 
 pub count-spec : {M : Type 1} → statement M
 count-spec =

@@ -27,7 +27,8 @@ find-hits-requires : tie.Need-find-hits-requires
 find-hits-requires c κs =
     let tested = c .before .before .before .before in
     let t = pool-taken _ (tested .before .capacity .ensures) (tested .if1 .left) in
-    (t .few, t .long, refl, subst OneSided (sym (c .before .before .range-of-box .ensures)) (box-one-sided _))
+    let range = c .before .before .range-of-box .ensures in
+    record { sized = t .sized; one-sided = subst OneSided (sym range) (box-one-sided _); room = refl }
 
 enum-known-found : tie.Need-enum-known-found
 enum-known-found c = search needs
@@ -40,8 +41,9 @@ returns-2 c =
     let searched = c .before .before in
     let ranged = searched .before .before .before in
     let tested = ranged .before .before in
-    let start = tested .before .before .before in
-    decide-broken (start .args .pool .now) (start .args .staff) (start .args .door) (start .args .quarter) (tested .before .capacity .ensures) (tested .if1 .left) (ranged .before .point-box .ensures) (ranged .range-of-box .ensures) _ (searched .find-hits .ensures) (c .enum-told .given .1)
+    let a = tested .before .before .before .args in
+    decide-broken (a .pool .now) (a .staff) (a .door) (a .quarter) (tested .before .capacity .ensures) (tested .if1 .left)
+    (ranged .before .point-box .ensures) (ranged .range-of-box .ensures) _ (searched .find-hits .ensures) (c .enum-told .given .1)
 
 decide-among-requires : tie.Need-decide-among-requires
 decide-among-requires c κs =
@@ -54,8 +56,9 @@ returns-3 c =
     let searched = found .before .before in
     let ranged = searched .before .before .before in
     let tested = ranged .before .before in
-    let start = tested .before .before .before in
-    decide-done (start .args .pool .now) (start .args .staff) (start .args .door) (start .args .quarter) (tested .before .capacity .ensures) (tested .if1 .left) (ranged .before .point-box .ensures) (ranged .range-of-box .ensures) _ (searched .find-hits .ensures) (found .found .given .1) (c .decide-among .ensures)
+    let a = tested .before .before .before .args in
+    decide-done (a .pool .now) (a .staff) (a .door) (a .quarter) (tested .before .capacity .ensures) (tested .if1 .left)
+    (ranged .before .point-box .ensures) (ranged .range-of-box .ensures) _ (searched .find-hits .ensures) (found .found .given .1) (c .decide-among .ensures)
 
 pub decide-spec : {M : Type 1} → statement M
 decide-spec =

@@ -12,7 +12,8 @@ use Rattle.index.proofs.decide.decide_among.Statement.{statement}
 use Rattle.index.proofs.decide.decide_among.Tie as tie
 
 abbrev Inv-loop : tie.InvT-loop
-Inv-loop pool hits found deciding₀ i₀ deciding i = (i ≤ found) × (decidingOf deciding (grantsFrom pool hits found i) ≡ decidingOf deciding₀ (grantsFrom pool hits found 1))
+Inv-loop pool hits found deciding₀ i₀ deciding i =
+    (i ≤ found) × (decidingOf deciding (grantsFrom pool hits found i) ≡ decidingOf deciding₀ (grantsFrom pool hits found 1))
 
 abbrev μ-loop : tie.MeasureT-loop
 μ-loop pool hits found deciding₀ i₀ deciding i = found - i
@@ -42,7 +43,9 @@ wide-requires-2 : tie.Need-wide-requires-2 Inv-loop μ-loop
 wide-requires-2 c κs = search needs
 
 grant-at-requires-2 : tie.Need-grant-at-requires-2 Inv-loop μ-loop
-grant-at-requires-2 c κs = cell-hit (c .before .before .before .before .before .before .before .before .before .pre) (c .before .before .loop-test .taken) (c .wide2 .ensures .0)
+grant-at-requires-2 c κs =
+    let turn = c .before .before in
+    cell-hit (turn .before .before .before .before .before .before .before .pre) (turn .loop-test .taken) (c .wide2 .ensures .0)
 
 outranks-requires : tie.Need-outranks-requires Inv-loop μ-loop
 outranks-requires c κs = search needs
@@ -60,8 +63,9 @@ loop-again c =
     let loop = turn .before .loop in
     let cells = turn .before .before .before .before .before .before .before .pre in
     let o = c .before .outranks .ensures in
-    let over = decides-over _ _ cells (turn .loop-test .taken) (found .before .wide2 .ensures .0) (found .grant-at2 .ensures) (loop .deciding) (loop .inv .1) in
-    let under = decides-under _ _ cells (turn .loop-test .taken) (found .before .wide2 .ensures .0) (found .grant-at2 .ensures) (loop .deciding) (loop .inv .1) in
+    let cell = found .before .wide2 .ensures .0 in
+    let over = decides-over _ _ cells (turn .loop-test .taken) cell (found .grant-at2 .ensures) (loop .deciding) (loop .inv .1) in
+    let under = decides-under _ _ cells (turn .loop-test .taken) cell (found .grant-at2 .ensures) (loop .deciding) (loop .inv .1) in
     (omega arith, ⊎-elim (λ w. rw (w .1) (over (sym o ∙ w .0 .taken))) (λ w. rw (w .1) (under (sym o ∙ w .0 .left))) (c .if2 .came))
 
 decision-of-requires : tie.Need-decision-of-requires Inv-loop μ-loop
@@ -72,7 +76,9 @@ returns-2 c =
     let loop = c .before .before .loop in
     let first = c .before .before .before in
     let cells = first .before .before .before .before .before .pre in
-    c .decision-of .ensures ∙ decides-end _ _ cells (loop .i) (omega arith) (first .before .before .before .if1 .left) (first .before .wide .ensures .0) (first .grant-at .ensures) (loop .deciding) (loop .inv .1)
+    let some = first .before .before .before .if1 .left in
+    c .decision-of .ensures
+    ∙ decides-end _ _ cells (loop .i) (omega arith) some (first .before .wide .ensures .0) (first .grant-at .ensures) (loop .deciding) (loop .inv .1)
 
 pub decide-among-spec : {M : Type 1} → statement M
 decide-among-spec =

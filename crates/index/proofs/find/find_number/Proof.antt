@@ -15,18 +15,27 @@ search-requires : tie.Need-search-requires
 search-requires c κs =
     let ranged = c .before .before .before in
     let start = ranged .before .before in (
-      record { few = start .pre .0; long = start .pre .1; hit-room = refl; unused = refl },
+      record { few = start .pre .few; long = start .pre .long; hit-room = refl; unused = refl },
       subst OneSided (sym (ranged .range-of-number .ensures)) (number-one-sided _),
     )
 
 returns : tie.Need-returns
-returns c = number-broken (c .before .before .before .before .before .before .before .args .pool .now) _ _ _ (c .before .before .before .before .before .range-of-number .ensures) (c .before .before .before .before .before .before .before .pre .0) (c .before .before .before .before .before .before .before .pre .1) (c .before .search .ensures) (not-true _ (c .if1 .taken))
+returns c =
+    let searched = c .before in
+    let ranged = searched .before .before .before .before in
+    let start = ranged .before .before in
+    number-broken (start .args .pool .now) _ _ _ (ranged .range-of-number .ensures) (start .pre) (searched .search .ensures) (not-true _ (c .if1 .taken))
 
 array-read-if2 : tie.Need-array-read-if2
 array-read-if2 c = search needs
 
 returns-2 : tie.Need-returns-2
-returns-2 c = number-absent (c .before .before .before .before .before .before .before .before .args .pool .now) _ _ _ (c .before .before .before .before .before .before .range-of-number .ensures) (c .before .before .before .before .before .before .before .before .pre .0) (c .before .before .before .before .before .before .before .before .pre .1) (c .before .before .search .ensures) (not-false _ (c .before .if1 .left)) (c .if2 .taken)
+returns-2 c =
+    let searched = c .before .before in
+    let ranged = searched .before .before .before .before in
+    let start = ranged .before .before in
+    number-absent (start .args .pool .now) _ _ _ (ranged .range-of-number .ensures) (start .pre) (searched .search .ensures)
+    (not-false _ (c .before .if1 .left)) (c .if2 .taken)
 
 array-read-wide : tie.Need-array-read-wide
 array-read-wide c = search needs
@@ -41,7 +50,13 @@ array-read-t24 : tie.Need-array-read-t24
 array-read-t24 c = search needs
 
 returns-3 : tie.Need-returns-3
-returns-3 c = rw (c .wide .ensures .0) (number-at (c .before .before .before .before .before .before .before .before .before .args .pool .now) _ _ _ (c .before .before .before .before .before .before .before .range-of-number .ensures) (c .before .before .before .before .before .before .before .before .before .pre .0) (c .before .before .before .before .before .before .before .before .before .pre .1) (c .before .before .before .search .ensures) (not-false _ (c .before .before .if1 .left)) (c .before .if2 .left))
+returns-3 c =
+    let searched = c .before .before .before in
+    let ranged = searched .before .before .before .before in
+    let start = ranged .before .before in
+    rw (c .wide .ensures .0)
+    (number-at (start .args .pool .now) _ _ _ (ranged .range-of-number .ensures) (start .pre) (searched .search .ensures)
+    (not-false _ (c .before .before .if1 .left)) (c .before .if2 .left))
 
 pub find-number-spec : {M : Type 1} → statement M
 find-number-spec =

@@ -1,9 +1,9 @@
 -- `grant::grant` meets its contract: it refuses, or stores what was planned. Assumes nothing.
 use Rattle.index.proofs.PlanLaws.{grant-refused, grant-done, plan-inserts}
-use Rattle.calls.specs.Calls.{grantLine}
-use Rattle.index.specs.Plans.{InsertionPlanned}
+use Rattle.model.specs.Call.{request}
+use Rattle.index.specs.Plans.{GrantPlanned}
 use Rattle.adt.specs.Insert.{inserted}
-use mathlib.Core.Path.{_≡_, subst, ap, _∙_}
+use mathlib.Core.Path.{subst, ap, _∙_}
 use borrow.Author.Needs.{needs}
 use Rattle.index.proofs.grant.grant.Statement.{statement}
 use Rattle.index.proofs.grant.grant.Tie as tie
@@ -21,19 +21,40 @@ requested-requires : tie.Need-requested-requires
 requested-requires c κs = search needs
 
 insert-requires : tie.Need-insert-requires
-insert-requires c κs = plan-inserts _ (record { number = c .before .before .before .before .before .before .before .before .args .number; rank = c .before .before .before .before .before .before .before .before .args .rank; kind = c .before .before .before .before .before .before .before .before .args .kind; bounds = c .before .before .before .before .before .before .before .before .args .bounds }) _ _ _ _ (subst (InsertionPlanned (grantLine (c .before .before .before .before .before .before .before .before .args .pool .now) (record { number = c .before .before .before .before .before .before .before .before .args .number; rank = c .before .before .before .before .before .before .before .before .args .rank; kind = c .before .before .before .before .before .before .before .before .args .kind; bounds = c .before .before .before .before .before .before .before .before .args .bounds })) (c .before .before .before .before .before .before .before .before .args .pool .now) (record { number = c .before .before .before .before .before .before .before .before .args .number; rank = c .before .before .before .before .before .before .before .before .args .rank; kind = c .before .before .before .before .before .before .before .before .args .kind; bounds = c .before .before .before .before .before .before .before .before .args .bounds })) (c .before .before .before .plan2 .given .1) (c .before .before .before .before .before .plan-insertion .ensures))
+insert-requires c κs =
+    let planned = c .before .before .before .before .before in
+    let start = planned .before .before .before in
+    let a = start .args in
+    let r = request (a .number) (a .rank) (a .kind) (a .bounds) in
+    let at = subst (GrantPlanned (a .pool .now) r) (c .before .before .before .plan2 .given .1) (planned .plan-insertion .ensures) in
+    plan-inserts _ r _ _ _ _ at
 
 same-length : tie.Need-same-length
 same-length c = search needs
 
 returns : tie.Need-returns
-returns c = grant-refused (c .before .before .before .before .before .before .args .pool .now) (record { number = c .before .before .before .before .before .before .args .number; rank = c .before .before .before .before .before .before .args .rank; kind = c .before .before .before .before .before .before .args .kind; bounds = c .before .before .before .before .before .before .args .bounds }) _ (subst (InsertionPlanned (grantLine (c .before .before .before .before .before .before .args .pool .now) (record { number = c .before .before .before .before .before .before .args .number; rank = c .before .before .before .before .before .before .args .rank; kind = c .before .before .before .before .before .before .args .kind; bounds = c .before .before .before .before .before .before .args .bounds })) (c .before .before .before .before .before .before .args .pool .now) (record { number = c .before .before .before .before .before .before .args .number; rank = c .before .before .before .before .before .before .args .rank; kind = c .before .before .before .before .before .before .args .kind; bounds = c .before .before .before .before .before .before .args .bounds })) (c .before .plan .given .1) (c .before .before .before .plan-insertion .ensures))
+returns c =
+    let planned = c .before .before .before in
+    let start = planned .before .before .before in
+    let a = start .args in
+    let r = request (a .number) (a .rank) (a .kind) (a .bounds) in
+    let at = subst (GrantPlanned (a .pool .now) r) (c .before .plan .given .1) (planned .plan-insertion .ensures) in
+    grant-refused (a .pool .now) r _ at
 
 same-length-2 : tie.Need-same-length-2
 same-length-2 c = search needs
 
 returns-2 : tie.Need-returns-2
-returns-2 c = grant-done (c .before .before .before .before .before .before .before .before .before .before .before .args .pool .now) (record { number = c .before .before .before .before .before .before .before .before .before .before .before .args .number; rank = c .before .before .before .before .before .before .before .before .before .before .before .args .rank; kind = c .before .before .before .before .before .before .before .before .before .before .before .args .kind; bounds = c .before .before .before .before .before .before .before .before .before .before .before .args .bounds }) _ _ _ (subst (InsertionPlanned (grantLine (c .before .before .before .before .before .before .before .before .before .before .before .args .pool .now) (record { number = c .before .before .before .before .before .before .before .before .before .before .before .args .number; rank = c .before .before .before .before .before .before .before .before .before .before .before .args .rank; kind = c .before .before .before .before .before .before .before .before .before .before .before .args .kind; bounds = c .before .before .before .before .before .before .before .before .before .before .before .args .bounds })) (c .before .before .before .before .before .before .before .before .before .before .before .args .pool .now) (record { number = c .before .before .before .before .before .before .before .before .before .before .before .args .number; rank = c .before .before .before .before .before .before .before .before .before .before .before .args .rank; kind = c .before .before .before .before .before .before .before .before .before .before .before .args .kind; bounds = c .before .before .before .before .before .before .before .before .before .before .before .args .bounds })) (c .before .before .before .before .before .before .plan2 .given .1) (c .before .before .before .before .before .before .before .before .plan-insertion .ensures)) (c .before .before .insert .ensures ∙ ap (inserted _ _) (c .before .before .before .requested .ensures))
+returns-2 c =
+    let stored = c .before .before in
+    let asked = stored .before in
+    let told = asked .before .before .before in
+    let planned = told .before .before in
+    let start = planned .before .before .before in
+    let a = start .args in
+    let r = request (a .number) (a .rank) (a .kind) (a .bounds) in
+    let at = subst (GrantPlanned (a .pool .now) r) (told .plan2 .given .1) (planned .plan-insertion .ensures) in
+    grant-done (a .pool .now) r _ _ _ at (stored .insert .ensures ∙ ap (inserted _ _) (asked .requested .ensures))
 
 pub grant-spec : {M : Type 1} → statement M
 grant-spec =

@@ -1,4 +1,5 @@
 -- `grant::plan_slot` meets its contract. Assumes nothing.
+use Rattle.model.specs.Call.{request}
 use Rattle.index.proofs.PlanLaws.{slot-descent, slot-broken}
 use borrow.Author.Needs.{needs}
 use Rattle.index.proofs.grant.plan_slot.Statement.{statement}
@@ -20,10 +21,25 @@ enum-known-slot : tie.Need-enum-known-slot
 enum-known-slot c = search needs
 
 plan-free-requires : tie.Need-plan-free-requires
-plan-free-requires c κs = (c .before .before .before .before .before .before .before .pre, slot-descent (c .before .before .before .before .before .before .before .args .pool .now) (record { number = c .before .before .before .before .before .before .before .args .number; rank = c .before .before .before .before .before .before .before .args .rank; kind = c .before .before .before .before .before .before .before .args .kind; bounds = c .before .before .before .before .before .before .before .args .bounds }) (c .before .before .before .before .before .requested .ensures) (c .before .before .before .before .point-of .ensures) (c .before .before .before .find-slot .ensures) (c .before .slot .given .1))
+plan-free-requires c κs =
+    let found = c .before .before .before in
+    let asked = found .before .before in
+    let start = asked .before .before in
+    let a = start .args in
+    let r = request (a .number) (a .rank) (a .kind) (a .bounds) in
+    let point = found .before .point-of .ensures in
+    let way = slot-descent (a .pool .now) r (asked .requested .ensures) point (found .find-slot .ensures) (c .before .slot .given .1) in
+    (start .pre, way)
 
 returns : tie.Need-returns
-returns c = slot-broken (c .before .before .before .before .before .before .args .pool .now) (record { number = c .before .before .before .before .before .before .args .number; rank = c .before .before .before .before .before .before .args .rank; kind = c .before .before .before .before .before .before .args .kind; bounds = c .before .before .before .before .before .before .args .bounds }) (slot-descent (c .before .before .before .before .before .before .args .pool .now) (record { number = c .before .before .before .before .before .before .args .number; rank = c .before .before .before .before .before .before .args .rank; kind = c .before .before .before .before .before .before .args .kind; bounds = c .before .before .before .before .before .before .args .bounds }) (c .before .before .before .before .requested .ensures) (c .before .before .before .point-of .ensures) (c .before .before .find-slot .ensures) (c .enum-told .given .1))
+returns c =
+    let found = c .before .before in
+    let asked = found .before .before in
+    let a = asked .before .before .args in
+    let r = request (a .number) (a .rank) (a .kind) (a .bounds) in
+    let point = found .before .point-of .ensures in
+    let way = slot-descent (a .pool .now) r (asked .requested .ensures) point (found .find-slot .ensures) (c .enum-told .given .1) in
+    slot-broken (a .pool .now) r way
 
 returns-2 : tie.Need-returns-2
 returns-2 c = search needs

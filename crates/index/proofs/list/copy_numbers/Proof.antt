@@ -46,10 +46,12 @@ loop-less c = search needs
 loop-again : tie.Need-loop-again Inv-loop μ-loop
 loop-again c =
     let at = c .before .before .before .before .before .before .before in
-    let l = c .before .before .before .before .loop in (
+    let l = c .before .before .before .before .loop in
+    let read = c .before .wide .ensures .0 in (
       omega arith,
       simp length-set (l .inv .1),
-      numbers-more (at .args .pool .now) (at .args .hits .now) (l .list) (l .i) (omega arith) (omega (arith, at .pre .room, at .pre .few)) (c .before .wide .ensures .0) (c .field .ensures) (l .inv .2),
+      numbers-more (at .args .pool .now) (at .args .hits .now) (l .list) (l .i) (omega arith) (omega (arith, at .pre .room, at .pre .few))
+          read (c .field .ensures) (l .inv .2),
     )
 
 same-length : tie.Need-same-length Inv-loop μ-loop

@@ -24,8 +24,9 @@ is-reversed-requires c κs = search needs
 returns-2 : tie.Need-returns-2
 returns-2 c =
     let tested = c .before in
-    let start = tested .before .before .before .before .before in
-    list-reversed (start .args .pool .now) (start .args .bounds) (start .args .list .now) (tested .before .before .capacity .ensures) (tested .before .if1 .left) (tested .is-reversed .ensures) (c .if2 .taken)
+    let a = tested .before .before .before .before .before .args in
+    list-reversed (a .pool .now) (a .bounds) (a .list .now) (tested .before .before .capacity .ensures) (tested .before .if1 .left)
+    (tested .is-reversed .ensures) (c .if2 .taken)
 
 range-of-box-requires : tie.Need-range-of-box-requires
 range-of-box-requires c κs = search needs
@@ -34,7 +35,8 @@ find-hits-requires : tie.Need-find-hits-requires
 find-hits-requires c κs =
     let tested = c .before .before .before .before in
     let t = pool-taken _ (tested .before .before .capacity .ensures) (tested .before .if1 .left) in
-    (t .few, t .long, refl, subst OneSided (sym (c .before .before .range-of-box .ensures)) (box-one-sided _))
+    let range = c .before .before .range-of-box .ensures in
+    record { sized = t .sized; one-sided = subst OneSided (sym range) (box-one-sided _); room = refl }
 
 enum-known-found : tie.Need-enum-known-found
 enum-known-found c = search needs
@@ -47,16 +49,18 @@ returns-3 c =
     let searched = c .before .before in
     let ranged = searched .before .before .before in
     let tested = ranged .before .before in
-    let start = tested .before .before .before .before .before in
-    list-broken (start .args .pool .now) (start .args .bounds) (start .args .list .now) (tested .before .before .capacity .ensures) (tested .before .if1 .left) (tested .is-reversed .ensures) (ranged .before .if2 .left) (ranged .range-of-box .ensures) _ (searched .find-hits .ensures) (c .enum-told .given .1)
+    let a = tested .before .before .before .before .before .args in
+    list-broken (a .pool .now) (a .bounds) (a .list .now) (tested .before .before .capacity .ensures) (tested .before .if1 .left) (tested .is-reversed .ensures)
+    (ranged .before .if2 .left) (ranged .range-of-box .ensures) _ (searched .find-hits .ensures) (c .enum-told .given .1)
 
 returns-4 : tie.Need-returns-4
 returns-4 c =
     let searched = c .before .before .before .before in
     let ranged = searched .before .before .before in
     let tested = ranged .before .before in
-    let start = tested .before .before .before .before .before in
-    list-short (start .args .pool .now) (start .args .bounds) (start .args .list .now) (tested .before .before .capacity .ensures) (tested .before .if1 .left) (tested .is-reversed .ensures) (ranged .before .if2 .left) (ranged .range-of-box .ensures) _ (searched .find-hits .ensures) (c .before .before .found .given .1) (c .if3 .taken)
+    let a = tested .before .before .before .before .before .args in
+    list-short (a .pool .now) (a .bounds) (a .list .now) (tested .before .before .capacity .ensures) (tested .before .if1 .left) (tested .is-reversed .ensures)
+    (ranged .before .if2 .left) (ranged .range-of-box .ensures) _ (searched .find-hits .ensures) (c .before .before .found .given .1) (c .if3 .taken)
 
 slice-relend-prefix-write-numbers : tie.Need-slice-relend-prefix-write-numbers
 slice-relend-prefix-write-numbers c = search needs
@@ -79,8 +83,10 @@ returns-5 c =
     let searched = room .before .before .before .before in
     let ranged = searched .before .before .before in
     let tested = ranged .before .before in
-    let start = tested .before .before .before .before .before in
-    list-done (start .args .pool .now) (start .args .bounds) (start .args .list .now) (tested .before .before .capacity .ensures) (tested .before .if1 .left) (tested .is-reversed .ensures) (ranged .before .if2 .left) (ranged .range-of-box .ensures) _ (searched .find-hits .ensures) (room .before .before .found .given .1) (room .if3 .left) (c .before .before .write-numbers .ensures)
+    let a = tested .before .before .before .before .before .args in
+    list-done (a .pool .now) (a .bounds) (a .list .now) (tested .before .before .capacity .ensures) (tested .before .if1 .left) (tested .is-reversed .ensures)
+    (ranged .before .if2 .left) (ranged .range-of-box .ensures) _ (searched .find-hits .ensures) (room .before .before .found .given .1)
+    (room .if3 .left) (c .before .before .write-numbers .ensures)
 
 pub list-spec : {M : Type 1} → statement M
 list-spec =

@@ -17,7 +17,9 @@ same-length : tie.Need-same-length
 same-length c = search needs
 
 returns : tie.Need-returns
-returns c = c .before .before .sort-numbers .ensures ∙ ap (λ (xs : List ℕ). sortBy (λ (n : ℕ). n) xs) (c .before .before .before .before .before .before .copy-numbers .ensures)
+returns c =
+    let copied = c .before .before .before .before .before .before in
+    c .before .before .sort-numbers .ensures ∙ ap (λ (xs : List ℕ). sortBy (λ (n : ℕ). n) xs) (copied .copy-numbers .ensures)
 
 pub write-numbers-spec : {M : Type 1} → statement M
 write-numbers-spec =

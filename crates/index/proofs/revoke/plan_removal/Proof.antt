@@ -1,10 +1,9 @@
 -- `revoke::plan_removal` meets its contract, in the order of revoke's line. Assumes nothing.
 use Rattle.index.proofs.RefusalSteps.{pool-refused, pool-taken}
-use Rattle.index.proofs.PlanLaws.{sized, hit-within, revoke-pool, revoke-zero, revoke-broken, revoke-absent, revoke-removal-broken, revoke-planned}
+use Rattle.index.proofs.PlanLaws.{hit-deep, hit-step, revoke-pool, revoke-zero, revoke-broken, revoke-absent, revoke-removal-broken, revoke-planned}
 use Rattle.index.specs.NumberSearch.{NumberFound}
 use Rattle.adt.specs.WalkResult.{removalWalkOf}
-use native.Mathlib.Omega.{arith}
-use mathlib.Core.Path.{_≡_, sym, ap, subst, _∙_}
+use mathlib.Core.Path.{sym, ap, subst, _∙_}
 use borrow.Author.Needs.{needs}
 use Rattle.index.proofs.revoke.plan_removal.Statement.{statement}
 use Rattle.index.proofs.revoke.plan_removal.Tie as tie
@@ -16,10 +15,17 @@ returns : tie.Need-returns
 returns c = revoke-pool (c .before .before .before .args .pool .now) _ (pool-refused _ (c .before .capacity .ensures) (c .if1 .taken))
 
 returns-2 : tie.Need-returns-2
-returns-2 c = revoke-zero (c .before .before .before .before .args .pool .now) _ (pool-taken (c .before .before .before .before .args .pool .now) (c .before .before .capacity .ensures) (c .before .if1 .left) .right) (c .if2 .taken)
+returns-2 c =
+    let one = c .before in
+    let a = one .before .before .before .args in
+    let t = pool-taken (a .pool .now) (one .before .capacity .ensures) (one .if1 .left) in
+    revoke-zero (a .pool .now) _ (t .right) (c .if2 .taken)
 
 find-number-requires : tie.Need-find-number-requires
-find-number-requires c κs = let t = pool-taken (c .before .before .before .before .args .pool .now) (c .before .before .capacity .ensures) (c .before .if1 .left) in (t .few, t .long)
+find-number-requires c κs =
+    let one = c .before in
+    let a = one .before .before .before .args in
+    pool-taken (a .pool .now) (one .before .capacity .ensures) (one .if1 .left) .sized
 
 enum-told : tie.Need-enum-told
 enum-told c = search needs
@@ -32,15 +38,23 @@ enum-known-hit c = search needs
 
 sub-find-terminal : tie.Need-sub-find-terminal
 sub-find-terminal c =
-    let t = pool-taken (c .before .before .before .before .before .before .before .before .args .pool .now) (c .before .before .before .before .before .before .capacity .ensures) (c .before .before .before .before .before .if1 .left) in
-    let h = hit-within (c .before .before .before .before .before .before .before .before .args .pool .now) _ (t .right) (c .before .before .before .before .if2 .left) (sized t) _ _ _ (subst (NumberFound (c .before .before .before .before .before .before .before .before .args .pool .now) (c .before .before .before .before .before .before .before .before .args .number)) (c .before .hit .given .1) (c .before .before .before .find-number .ensures)) in
-    omega (arith, h .2)
+    let found = c .before .before .before in
+    let two = found .before in
+    let one = two .before in
+    let a = one .before .before .before .args in
+    let t = pool-taken (a .pool .now) (one .before .capacity .ensures) (one .if1 .left) in
+    let number = subst (NumberFound (a .pool .now) (a .number)) (c .before .hit .given .1) (found .find-number .ensures) in
+    hit-deep (a .pool .now) _ (t .right) (two .if2 .left) (t .sized) _ _ _ number
 
 find-terminal-requires : tie.Need-find-terminal-requires
 find-terminal-requires c κs =
-    let t = pool-taken (c .before .before .before .before .before .before .before .before .args .pool .now) (c .before .before .before .before .before .before .capacity .ensures) (c .before .before .before .before .before .if1 .left) in
-    let h = hit-within (c .before .before .before .before .before .before .before .before .args .pool .now) _ (t .right) (c .before .before .before .before .if2 .left) (sized t) _ _ _ (subst (NumberFound (c .before .before .before .before .before .before .before .before .args .pool .now) (c .before .before .before .before .before .before .before .before .args .number)) (c .before .hit .given .1) (c .before .before .before .find-number .ensures)) in
-    (t .few, t .long, omega (arith, h .2), h .0, h .1, t .some)
+    let found = c .before .before .before in
+    let two = found .before in
+    let one = two .before in
+    let a = one .before .before .before .args in
+    let t = pool-taken (a .pool .now) (one .before .capacity .ensures) (one .if1 .left) in
+    let number = subst (NumberFound (a .pool .now) (a .number)) (c .before .hit .given .1) (found .find-number .ensures) in
+    hit-step (a .pool .now) _ (t .right) (two .if2 .left) (t .sized) _ _ _ number
 
 enum-told-3 : tie.Need-enum-told-3
 enum-told-3 c = search needs
@@ -49,20 +63,46 @@ enum-known-end : tie.Need-enum-known-end
 enum-known-end c = search needs
 
 returns-3 : tie.Need-returns-3
-returns-3 c = revoke-broken (c .before .before .before .before .before .before .before .args .pool .now) _ (pool-taken (c .before .before .before .before .before .before .before .args .pool .now) (c .before .before .before .before .before .capacity .ensures) (c .before .before .before .before .if1 .left) .right) (c .before .before .before .if2 .left) (subst (NumberFound (c .before .before .before .before .before .before .before .args .pool .now) (c .before .before .before .before .before .before .before .args .number)) (c .enum-told .given .1) (c .before .before .find-number .ensures))
+returns-3 c =
+    let found = c .before .before in
+    let two = found .before in
+    let one = two .before in
+    let a = one .before .before .before .args in
+    let t = pool-taken (a .pool .now) (one .before .capacity .ensures) (one .if1 .left) in
+    let number = subst (NumberFound (a .pool .now) (a .number)) (c .enum-told .given .1) (found .find-number .ensures) in
+    revoke-broken (a .pool .now) _ (t .right) (two .if2 .left) number
 
 returns-4 : tie.Need-returns-4
-returns-4 c = revoke-absent (c .before .before .before .before .before .before .before .args .pool .now) _ (pool-taken (c .before .before .before .before .before .before .before .args .pool .now) (c .before .before .before .before .before .capacity .ensures) (c .before .before .before .before .if1 .left) .right) (c .before .before .before .if2 .left) (subst (NumberFound (c .before .before .before .before .before .before .before .args .pool .now) (c .before .before .before .before .before .before .before .args .number)) (c .enum-told2 .given .1) (c .before .before .find-number .ensures))
+returns-4 c =
+    let found = c .before .before in
+    let two = found .before in
+    let one = two .before in
+    let a = one .before .before .before .args in
+    let t = pool-taken (a .pool .now) (one .before .capacity .ensures) (one .if1 .left) in
+    let number = subst (NumberFound (a .pool .now) (a .number)) (c .enum-told2 .given .1) (found .find-number .ensures) in
+    revoke-absent (a .pool .now) _ (t .right) (two .if2 .left) number
 
 returns-5 : tie.Need-returns-5
 returns-5 c =
-    let t = pool-taken (c .before .before .before .before .before .before .before .before .before .before .before .args .pool .now) (c .before .before .before .before .before .before .before .before .before .capacity .ensures) (c .before .before .before .before .before .before .before .before .if1 .left) in
-    revoke-removal-broken (c .before .before .before .before .before .before .before .before .before .before .before .args .pool .now) _ (t .right) (c .before .before .before .before .before .before .before .if2 .left) (sized t) _ _ _ (subst (NumberFound (c .before .before .before .before .before .before .before .before .before .before .before .args .pool .now) (c .before .before .before .before .before .before .before .before .before .before .before .args .number)) (c .before .before .before .before .hit .given .1) (c .before .before .before .before .before .before .find-number .ensures)) (ap removalWalkOf (sym (c .enum-told3 .given .1)) ∙ c .before .before .find-terminal .ensures)
+    let found = c .before .before .before .before .before .before in
+    let two = found .before in
+    let one = two .before in
+    let a = one .before .before .before .args in
+    let t = pool-taken (a .pool .now) (one .before .capacity .ensures) (one .if1 .left) in
+    let number = subst (NumberFound (a .pool .now) (a .number)) (c .before .before .before .before .hit .given .1) (found .find-number .ensures) in
+    let end = ap removalWalkOf (sym (c .enum-told3 .given .1)) ∙ c .before .before .find-terminal .ensures in
+    revoke-removal-broken (a .pool .now) _ (t .right) (two .if2 .left) (t .sized) _ _ _ number end
 
 returns-6 : tie.Need-returns-6
 returns-6 c =
-    let t = pool-taken (c .before .before .before .before .before .before .before .before .before .before .before .before .args .pool .now) (c .before .before .before .before .before .before .before .before .before .before .capacity .ensures) (c .before .before .before .before .before .before .before .before .before .if1 .left) in
-    revoke-planned (c .before .before .before .before .before .before .before .before .before .before .before .before .args .pool .now) _ (t .right) (c .before .before .before .before .before .before .before .before .if2 .left) (sized t) _ _ _ (subst (NumberFound (c .before .before .before .before .before .before .before .before .before .before .before .before .args .pool .now) (c .before .before .before .before .before .before .before .before .before .before .before .before .args .number)) (c .before .before .before .before .before .hit .given .1) (c .before .before .before .before .before .before .before .find-number .ensures)) _ _ (ap removalWalkOf (sym (c .before .end .given .1)) ∙ c .before .before .before .find-terminal .ensures)
+    let found = c .before .before .before .before .before .before .before in
+    let two = found .before in
+    let one = two .before in
+    let a = one .before .before .before .args in
+    let t = pool-taken (a .pool .now) (one .before .capacity .ensures) (one .if1 .left) in
+    let number = subst (NumberFound (a .pool .now) (a .number)) (c .before .before .before .before .before .hit .given .1) (found .find-number .ensures) in
+    let end = ap removalWalkOf (sym (c .before .end .given .1)) ∙ c .before .before .before .find-terminal .ensures in
+    revoke-planned (a .pool .now) _ (t .right) (two .if2 .left) (t .sized) _ _ _ number _ _ end
 
 pub plan-removal-spec : {M : Type 1} → statement M
 plan-removal-spec =

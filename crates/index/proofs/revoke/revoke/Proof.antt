@@ -16,19 +16,32 @@ enum-known-removal-2 : tie.Need-enum-known-removal-2
 enum-known-removal-2 c = search needs
 
 remove-requires : tie.Need-remove-requires
-remove-requires c κs = plan-removes (c .before .before .before .before .before .before .before .args .pool .now) _ _ _ _ _ (subst (RemovalPlanned (c .before .before .before .before .before .before .before .args .pool .now) (c .before .before .before .before .before .before .before .args .number)) (c .before .before .removal2 .given .1) (c .before .before .before .before .plan-removal .ensures))
+remove-requires c κs =
+    let planned = c .before .before .before .before in
+    let a = planned .before .before .before .args in
+    let at = subst (RemovalPlanned (a .pool .now) (a .number)) (c .before .before .removal2 .given .1) (planned .plan-removal .ensures) in
+    plan-removes (a .pool .now) _ _ _ _ _ at
 
 same-length : tie.Need-same-length
 same-length c = search needs
 
 returns : tie.Need-returns
-returns c = revoke-refused (c .before .before .before .before .before .before .args .pool .now) _ _ (subst (RemovalPlanned (c .before .before .before .before .before .before .args .pool .now) (c .before .before .before .before .before .before .args .number)) (c .before .removal .given .1) (c .before .before .before .plan-removal .ensures))
+returns c =
+    let planned = c .before .before .before in
+    let a = planned .before .before .before .args in
+    let at = subst (RemovalPlanned (a .pool .now) (a .number)) (c .before .removal .given .1) (planned .plan-removal .ensures) in
+    revoke-refused (a .pool .now) _ _ at
 
 same-length-2 : tie.Need-same-length-2
 same-length-2 c = search needs
 
 returns-2 : tie.Need-returns-2
-returns-2 c = revoke-done (c .before .before .before .before .before .before .before .before .before .before .args .pool .now) _ _ _ _ _ (subst (RemovalPlanned (c .before .before .before .before .before .before .before .before .before .before .args .pool .now) (c .before .before .before .before .before .before .before .before .before .before .args .number)) (c .before .before .before .before .before .removal2 .given .1) (c .before .before .before .before .before .before .before .plan-removal .ensures)) (c .before .before .remove .ensures)
+returns-2 c =
+    let told = c .before .before .before .before .before in
+    let planned = told .before .before in
+    let a = planned .before .before .before .args in
+    let at = subst (RemovalPlanned (a .pool .now) (a .number)) (told .removal2 .given .1) (planned .plan-removal .ensures) in
+    revoke-done (a .pool .now) _ _ _ _ _ at (c .before .before .remove .ensures)
 
 pub revoke-spec : {M : Type 1} → statement M
 revoke-spec =

@@ -27,7 +27,8 @@ find-hits-requires : tie.Need-find-hits-requires
 find-hits-requires c κs =
     let tested = c .before .before .before .before in
     let t = pool-taken _ (tested .before .capacity .ensures) (tested .if1 .left) in
-    (t .few, t .long, refl, subst OneSided (sym (c .before .before .range-of-box .ensures)) (box-one-sided _))
+    let range = c .before .before .range-of-box .ensures in
+    record { sized = t .sized; one-sided = subst OneSided (sym range) (box-one-sided _); room = refl }
 
 enum-known-found : tie.Need-enum-known-found
 enum-known-found c = search needs

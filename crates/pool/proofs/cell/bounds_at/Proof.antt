@@ -24,7 +24,17 @@ field-requires-6 c κs = search needs
 
 returns : tie.Need-returns
 unfolding grantAt
-returns c = rw (c .before .before .before .before .before .field .ensures, c .before .before .before .before .field2 .ensures, c .before .before .before .field3 .ensures, c .before .before .field4 .ensures, c .before .field5 .ensures, c .field6 .ensures)
+returns c =
+    let third = c .before .before .before in
+    let first = third .before .before in
+    rw (
+      first .field .ensures,
+      third .before .field2 .ensures,
+      third .field3 .ensures,
+      c .before .before .field4 .ensures,
+      c .before .field5 .ensures,
+      c .field6 .ensures,
+    )
 
 pub bounds-at-spec : {M : Type 1} → statement M
 bounds-at-spec =

@@ -4,14 +4,15 @@ use Rattle.pool.specs.Layout.{place}
 use lib.Seq.{sets}
 use lib.ListN.{length, take, length-set}
 use native.Mathlib.Omega.{arith}
-use mathlib.Core.Path.{_≡_, refl, sym, ap, _∙_}
+use mathlib.Core.Path.{_≡_, refl}
 use Prim.Native.Nat.{_+_, _-_, _≤_}
 use borrow.Author.Needs.{needs}
 use Rattle.pool.proofs.cell.store_cell.Statement.{statement}
 use Rattle.pool.proofs.cell.store_cell.Tie as tie
 
 abbrev Inv-loop : tie.InvT-loop
-Inv-loop pool₀ cell words at i₀ pool i = (i ≤ 10) × (at + 10 ≤ length pool) × (length words ≡ 10) × (length pool ≡ length pool₀) × (pool ≡ sets pool₀ at (take i words))
+Inv-loop pool₀ cell words at i₀ pool i =
+    (i ≤ 10) × (at + 10 ≤ length pool) × (length words ≡ 10) × (length pool ≡ length pool₀) × (pool ≡ sets pool₀ at (take i words))
 
 abbrev μ-loop : tie.MeasureT-loop
 μ-loop pool₀ cell words at i₀ pool i = 10 - i
@@ -21,7 +22,9 @@ place-of-requires c κs = search needs
 
 loop-holds : tie.Need-loop-holds Inv-loop μ-loop
 unfolding place
-loop-holds c = (search needs, omega (arith, c .place-of .ensures .0, c .before .before .pre .0, c .before .before .pre .2), c .before .before .pre .3, refl, refl)
+loop-holds c =
+    let p = c .before .before .pre in
+    (search needs, omega (arith, c .place-of .ensures .0, p .0 .some, p .0 .long), p .1, refl, refl)
 
 mul-pool : tie.Need-mul-pool Inv-loop μ-loop
 mul-pool c = search needs

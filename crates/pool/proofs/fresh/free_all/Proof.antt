@@ -4,25 +4,32 @@ use Rattle.pool.proofs.CellLaws.{length-withCell}
 use Rattle.pool.specs.Fresh.{freeCells}
 use Rattle.pool.specs.Capacity.{poolLength}
 use Rattle.pool.specs.Layout.{headerWords}
-use lib.Seq.{drop-length}
 use lib.ListN.{length, take, drop}
 use lib.Dec.{eqb}
 use native.Mathlib.Omega.{arith}
 use mathlib.Core.Bool.{cond}
-use mathlib.Core.Path.{_≡_, refl, sym, ap, _∙_}
+use mathlib.Core.Path.{_≡_, refl, ap, _∙_}
 use Prim.Native.Nat.{suc, _-_, _≤_}
 use borrow.Author.Needs.{needs}
 use Rattle.pool.proofs.fresh.free_all.Statement.{statement}
 use Rattle.pool.proofs.fresh.free_all.Tie as tie
 
 abbrev Inv-loop : tie.InvT-loop
-Inv-loop pool₀ cells next₀ k₀ pool next k = (k ≤ cells) × (length pool ≡ poolLength cells) × (next ≡ cond (eqb (cells - k) 0) 0 (suc k)) × (drop (poolLength k) pool ≡ freeCells (cells - k) (suc k)) × (take headerWords pool ≡ take headerWords pool₀)
+Inv-loop pool₀ cells next₀ k₀ pool next k =
+    (k ≤ cells)
+    × (length pool ≡ poolLength cells)
+    × (next ≡ cond (eqb (cells - k) 0) 0 (suc k))
+    × (drop (poolLength k) pool ≡ freeCells (cells - k) (suc k))
+    × (take headerWords pool ≡ take headerWords pool₀)
 
 abbrev μ-loop : tie.MeasureT-loop
 μ-loop pool₀ cells next₀ k₀ pool next k = k
 
 loop-holds : tie.Need-loop-holds Inv-loop μ-loop
-loop-holds c = let n = free-none (c .before .args .pool .now) (c .before .args .cells) (c .before .pre .1) in (search needs, c .before .pre .1, n .0, n .1, refl)
+loop-holds c =
+    let long = c .before .pre .long in
+    let n = free-none (c .before .args .pool .now) (c .before .args .cells) long in
+    (search needs, long, n .0, n .1, refl)
 
 store-free-requires : tie.Need-store-free-requires Inv-loop μ-loop
 store-free-requires c κs = search needs

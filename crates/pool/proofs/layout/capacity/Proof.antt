@@ -18,10 +18,14 @@ wide-requires : tie.Need-wide-requires
 wide-requires c κs = search needs
 
 returns-2 : tie.Need-returns-2
-returns-2 c = pool-other _ (c .before .before .before .before .length-capacity .ensures) (c .before .before .before .if1 .left) (c .before .wide .ensures .0) (c .if2 .taken)
+returns-2 c =
+    let some = c .before .before .before in
+    pool-other _ (some .before .length-capacity .ensures) (some .if1 .left) (c .before .wide .ensures .0) (c .if2 .taken)
 
 returns-3 : tie.Need-returns-3
-returns-3 c = pool-right _ (c .before .before .before .before .length-capacity .ensures) (c .before .before .before .if1 .left) (c .before .wide .ensures .0) (c .if2 .left)
+returns-3 c =
+    let some = c .before .before .before in
+    pool-right _ (some .before .length-capacity .ensures) (some .if1 .left) (c .before .wide .ensures .0) (c .if2 .left)
 
 pub capacity-spec : {M : Type 1} → statement M
 capacity-spec =

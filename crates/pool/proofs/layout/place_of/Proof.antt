@@ -1,6 +1,5 @@
 -- `layout::place_of` meets its contract: the place is that of specs/Layout, and lies within the cells up to this one. Assumes nothing.
 use Rattle.pool.specs.Layout.{place}
-use mathlib.Core.Path.{_≡_, refl, sym, ap, _∙_}
 use native.Mathlib.Omega.{arith}
 use borrow.Author.Needs.{needs}
 use Rattle.pool.proofs.layout.place_of.Statement.{statement}
