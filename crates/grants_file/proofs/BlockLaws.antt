@@ -15,7 +15,6 @@ use native.Mathlib.Omega.{arith}
 use native.Mathlib.Numerals.{add-one}
 use native.Mathlib.Nat.{div-add-mod'}
 use borrow.Author.Tests.{eqb-true, eq-eqb, not-false}
-use lib.Dec.{eqb}
 use lib.ListN.{length, getD, take, drop, replicate, length-append, length-replicate, length-take, length-drop, take-append-drop, length-map}
 use lib.Seq.{take-at, drop-at, getD-append-add, take-all, take-take, drop-drop, take-add}
 use Rattle.lists.specs.Tests.{sameNumbers}

@@ -4,20 +4,19 @@
 --   numbered-here, numbered-next, numbered-end   the grants left, one at a time
 -- Assumes nothing.
 use Prim.Native.Nat.{ℕ, _+_, _≤_, _<_}
-use mathlib.Core.Path.{_≡_, refl, sym, ap, _∙_}
+use mathlib.Core.Path.{_≡_, sym, ap, _∙_}
 use mathlib.Core.Bool.{Bool, true, false}
 use mathlib.Core.List.{List, _∷_}
 use native.Mathlib.Omega.{arith}
-use lib.Dec.{leb}
 use lib.ListN.{drop, drop-of-length-le}
-use borrow.Author.Tests.{eq-eqb, ne-eqb, le-leb, lt-leb}
+use borrow.Author.Tests.{eq-eqb, ne-eqb}
 use Rattle.model.specs.declared.Grant.{Grant}
 use Rattle.grants_file.specs.declared.Defect.{Defect}
 use Rattle.grants_file.specs.declared.Entry.the-variants.{Is, Absent}
-use Rattle.grants_file.specs.File.{blocksIn, totalIn, doorsIn, grantsIn}
+use Rattle.grants_file.specs.File.{blocksIn, totalIn, grantsIn}
 use Rattle.grants_file.specs.Defects.{isWrong, defectIn}
 use Rattle.grants_file.specs.FileSets.{Accepted}
-use Rattle.grants_file.specs.Contents.{ifSound, hasDoor, numberedOf}
+use Rattle.grants_file.specs.Contents.{ifSound, numberedOf}
 use Rattle.grants_file.proofs.FileLaws.{length-grantsIn}
 use Rattle.grants_file.proofs.DefectLaws.{sound-accepted}
 use Rattle.grants_file.proofs.GrantSteps.{accepted-whole}

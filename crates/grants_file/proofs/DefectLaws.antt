@@ -6,7 +6,7 @@
 --   clear-nil, clear-cons, clear-parts    of a row none is there exactly if its first is not, nor one of the others
 --   clear-front             defects that are not there may be left out in front
 --   clear-append, clear-flatMap    of rows that are joined none is there exactly if none of each is
---   sound-accepted, accepted-sound    the accepted files are those in which nothing is wrong
+--   sound-accepted          a file in which nothing is wrong is accepted
 --   outcome-done, outcome-refused  an outcome says whether there is a fault
 --   answer-first, answer-defect    an answer by the first defect of a row, and the verdict's
 -- Assumes nothing.
@@ -118,10 +118,6 @@ none-wrong (some x) e = absurd (false≢true e)
 pub sound-accepted : (f : List ℕ) → false ≡ isWrong (defectIn f) → Accepted f
 unfolding fileCauses
 sound-accepted f e = sym (defectFault-first (fileDefects f)) ∙ none-wrong (defectFault (defectIn f)) e
-
-pub accepted-sound : (f : List ℕ) → Accepted f → isWrong (defectIn f) ≡ false
-unfolding fileCauses
-accepted-sound f a = ap isSome (defectFault-first (fileDefects f) ∙ a)
 
 -- an outcome says whether there is a fault
 pub outcome-done : (o : Option Fault) → outcomeBy o ≡ Done → false ≡ isSome o

@@ -29,10 +29,12 @@ use Rattle.grants_file.specs.FileSets.{Accepted, FileSet}
 use Rattle.grants_file.proofs.BytesLaws.{bytesAt-below, be16At-below, be16At-part}
 use Rattle.grants_file.proofs.RecordLaws.{decodeRecord-fits}
 use Rattle.grants_file.proofs.RightRecordLaws.{RightRecords, lastNumber, lastNumber-append, RightGrant, right-append, right-kinds, right-encode}
-use Rattle.grants_file.proofs.BlockLaws.{wrongChecksum-headerBlock, hasMagic-headerBlock, number-headerBlock, wrongPadding-headerBlock, wrongChecksum-recordBlock, hasMagic-recordBlock}
-use Rattle.grants_file.proofs.BlockLaws.{number-recordBlock, countOf-recordBlock, wrongPadding-recordBlock, recordsOf-mem, headerBlock-take, recordBlock-take}
+use Rattle.grants_file.proofs.BlockLaws.{wrongChecksum-headerBlock, hasMagic-headerBlock, number-headerBlock, wrongPadding-headerBlock}
+use Rattle.grants_file.proofs.BlockLaws.{wrongChecksum-recordBlock, hasMagic-recordBlock}
+use Rattle.grants_file.proofs.BlockLaws.{number-recordBlock, countOf-recordBlock, wrongPadding-recordBlock, recordsOf-mem, headerBlock-take}
+use Rattle.grants_file.proofs.BlockLaws.{recordBlock-take}
 use Rattle.grants_file.proofs.FileLaws.{blockOf, grantsOf, length-chunk, fileOf-blocks, length-fileOf, blockAt-fileOf, totalIn-fileOf, doorsIn-fileOf}
-use Rattle.grants_file.proofs.FileLaws.{recordsOf-fileOf, grantsIn-fileOf, length-grantsIn, chunk-grantsIn, grantsIn-mem, length-blockAt, blocks-joined}
+use Rattle.grants_file.proofs.FileLaws.{recordsOf-fileOf, length-grantsIn, chunk-grantsIn, grantsIn-mem, length-blockAt, blocks-joined}
 use Rattle.grants_file.proofs.CauseLaws.{Whole, RightStart, RightHeader, RightLayout, RightRecordsIn, Passes, accepted-iff}
 
 -- properties in a chain, each with those after it

@@ -5,11 +5,11 @@
 --   layoutDefects b i t            its record count, by a test t of it, and its fill
 --   headerDefects f                the rest of block 0: n, the block count against n, the order of the doors, the fill
 --   recordDefects, recordsDefects  in record k of block i, counted from 1, and in its records from the k-th on
---   blockDefects f i, fileDefects f    all of block i, and all of a file
+--   blockDefects f i, fileDefects f    all of block i, the start first, and all of a file
 --   defectFault x                  the fault that a defect stands for
---   firstDefect cs                 the first that is there, Sound where none is
+--   firstDefect cs                 the first that is there, Sound where none is; by `defectFault-first` of proofs/DefectLaws it is the first fault's
 --   defectIn f                     what is wrong in a file
--- Assumes nothing: these are definitions.
+-- Changed by cards 2 and 3. Assumes nothing: these are definitions.
 use Prim.Native.Nat.{ℕ, zero, suc, _-_}
 use mathlib.Core.Bool.{Bool, true, false, cond, not, _&&_}
 use mathlib.Core.List.{List, [], _∷_, _++_, flatMap}

@@ -2,7 +2,7 @@
 --   encodeRecord g        its bytes
 --   recordNumber r        the grant's number in the bytes r; kindByte r is the byte of its kind
 --   decodeRecord r        the grant
--- Changed by cards 2, 3 and 11. Assumes nothing: these are definitions.
+-- Changed by cards 2 and 11. Assumes nothing: these are definitions.
 use Prim.Native.Nat.{ℕ}
 use mathlib.Core.List.{List, [], _∷_, _++_, flatMap}
 use lib.ListN.{getD}

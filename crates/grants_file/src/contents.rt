@@ -13,10 +13,9 @@ pub fn doors_of(file: &[u8]) -> Doors
     if is_wrong(validate(file)) {
         return Doors::Unknown;
     }
-    Doors::Are {
-        from: first_door(file),
-        to: last_door(file),
-    }
+    let from = first_door(file);
+    let to = last_door(file);
+    Doors::Are { from, to }
 }
 
 // Whether a door is one of those: only of these does the file hold every grant.

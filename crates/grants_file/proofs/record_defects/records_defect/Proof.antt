@@ -1,5 +1,5 @@
 -- `record_defects::records_defect` meets its contract. The invariant: the records passed are sound, so those left decide. Assumes nothing.
-use Prim.Native.Nat.{_+_, _-_, _≤_}
+use Prim.Native.Nat.{_-_, _≤_}
 use mathlib.Core.Path.{_≡_, sym, _∙_}
 use native.Mathlib.Omega.{arith}
 use lib.ListN.{length}
