@@ -35,7 +35,7 @@ pub record FreeSlot (w : List ℕ) (link free next : ℕ) : Type 0 where
 
 -- the cell k has so many levels below it, and so many cells were met, k among them
 pub record RemovalStep (w : List ℕ) (c below k met : ℕ) : Type 0 where
-  pub pool : Sized w c
+  pub sized : Sized w c
   pub deep : below ≤ levels
   pub some : 0 < k
   pub few : k ≤ c

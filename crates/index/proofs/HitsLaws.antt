@@ -14,7 +14,7 @@ use lib.ListN.{length, take, getD}
 use lib.Seq.{length-take-le}
 use Rattle.geometry.specs.Region.{Region}
 use Rattle.pool.specs.Capacity.{Sized, InPool}
-use Rattle.pool.proofs.CapacityLaws.{capacityOf-poolLength}
+use Rattle.pool.proofs.CapacityLaws.{cell-inPool, capacityOf-poolLength}
 use Rattle.adt.specs.Search.{broken, search}
 use Rattle.adt.specs.SearchMemory.{foundIn, Encodes}
 use Rattle.adt.proofs.EnterSteps.{stands-as}
@@ -46,7 +46,7 @@ module _ (w : List ℕ) (c : ℕ) (q : Region) (sized : Sized w c)
               few = omega (arith, n .found-met, n .met-cells, sized .few);
               cell = λ i lt.
                   let k = stands-within w q st (sized .few) cap i lt in
-                  record { some = k .some; few = omega (arith, k .few, sized .few); long = omega (arith, k .few, sized .long) };
+                  cell-inPool sized (k .some) (k .few);
             };
       }
 

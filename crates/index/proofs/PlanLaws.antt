@@ -30,7 +30,7 @@ use Rattle.geometry.specs.Levels.{levels}
 use Rattle.geometry.specs.Point.{pointOf}
 use Rattle.pool.specs.Capacity.{Sized, capacityOf, wrongLength, wrongPool}
 use Rattle.pool.specs.Fresh.{freshPool}
-use Rattle.pool.proofs.CapacityLaws.{capacityOf-poolLength}
+use Rattle.pool.proofs.CapacityLaws.{cell-inPool, capacityOf-poolLength}
 use Rattle.adt.specs.Search.{broken}
 use Rattle.adt.specs.Insert.{blankAt, descend, freeHead, nextFree, freeBroken, inserted}
 use Rattle.adt.specs.Insert as insert
@@ -136,7 +136,7 @@ module _ (w : List ℕ) (r : Request) where
           way = way;
           slot =
               record {
-                cell = record { some = omega arith; few = omega (arith, sized .few); long = omega (arith, sized .long) };
+                cell = cell-inPool sized (omega arith) le;
                 at = descent-within w c (sized .long) _ _ _ _ _ _ (omega (arith, sized .long)) (rw capacity-is at way);
                 head = head;
                 after = after;
@@ -209,7 +209,7 @@ module _ (w : List ℕ) (n : ℕ) where
         -- the removal walk may begin at the first hit
         pub hit-step : RemovalStep w c (levels - level) cell 1
         unfolding NumberFound
-        hit-step = record { pool = sized; deep = omega arith; some = f .some; few = hit-few; met-cells = sized .some }
+        hit-step = record { sized = sized; deep = omega arith; some = f .some; few = hit-few; met-cells = sized .some }
 
         pub revoke-removal-broken : remove.broken ≡ follow w c (levels - level) cell link 1 → RemovalPlanned w n (removal.Refused BrokenLinks)
         unfolding RemovalPlanned revokeOrder firstFault NumberFound revokeBroken
@@ -219,8 +219,7 @@ module _ (w : List ℕ) (n : ℕ) where
         unfolding RemovalPlanned revokeOrder firstFault NumberFound revokeBroken
         revoke-planned leaf cut e =
             let ends = sym (e ∙ walk) in
-            let few = hit-few in
-            let end = follow-within w c (sized .long) (levels - level) cell link 1 leaf cut (f .some) few (f .place) (sym e) in
+            let end = follow-within w c (sized .long) (levels - level) cell link 1 leaf cut (f .some) hit-few (f .place) (sym e) in
             record {
               passes = rw (p, ne-eqb n 0 nz, ends, f .found, eqb·suc-zero (length (f .others)));
               first = rw (f .found);
@@ -228,8 +227,8 @@ module _ (w : List ℕ) (n : ℕ) where
               ends = ends;
               inside =
                   record {
-                    cell = record { some = f .some; few = omega (arith, sized .few); long = omega (arith, sized .long) };
-                    terminal = record { some = end .some; few = omega (arith, end .few, sized .few); long = omega (arith, end .few, sized .long) };
+                    cell = cell-inPool sized (f .some) hit-few;
+                    terminal = cell-inPool sized (end .some) (end .few);
                     at = f .place;
                     cut-at = end .place;
                   };

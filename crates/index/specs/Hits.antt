@@ -1,5 +1,5 @@
 -- What a search leaves for list, decide, count, write and match: the cells of its hits, in order, at the start of a list of 2,048 words.
---   Searchable w c q hits  the pool w has c cells, the range q bounds each axis on one side but the number's, and hits has room for every cell
+--   Searchable w c q hits  what the search asks: a pool of c cells, a range of that form, and room for a hit of every cell
 --   CellsAt w hits n       the first n of the list are cells of the pool w
 --   HitsAt w q hits n      they are the hits of the search for the range q
 --   numbersAt w ks         the numbers of the grants in the cells ks
@@ -20,11 +20,13 @@ use Rattle.index.specs.declared.hits.Hits.{Hits}
 use Rattle.index.specs.declared.hits.Hits.the-variants.{Broken, Found}
 use Rattle.calls.specs.Walks.{hitsOf, isBroken}
 
+-- the pool has its size, the range one of the forms of geometry's SearchRange, and the list the length of the largest pool
 pub record Searchable (w : List ℕ) (c : ℕ) (q : Region) (hits : List ℕ) : Type 0 where
   pub sized : Sized w c
   pub one-sided : OneSided q
   pub room : length hits ≡ maxGrants
 
+-- each can be read as a cell
 pub record CellsAt (w hits : List ℕ) (n : ℕ) : Type 0 where
   pub room : length hits ≡ maxGrants
   pub few : n ≤ maxGrants
@@ -33,6 +35,7 @@ pub record CellsAt (w hits : List ℕ) (n : ℕ) : Type 0 where
 abbrev pub numbersAt : List ℕ → List ℕ → List ℕ
 numbersAt w ks = map (λ g. g .number) (map (grantAt w) ks)
 
+-- the search met no cause of fault 9, and its hits are the first n of the list
 pub record HitsAt (w : List ℕ) (q : Region) (hits : List ℕ) (n : ℕ) : Type 0 where
   pub unbroken : isBroken (search w q) ≡ false
   pub found : hitsOf (search w q) ≡ take n hits

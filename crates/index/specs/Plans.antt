@@ -41,6 +41,7 @@ unfoldable pub addedAll : List ℕ → List Grant → List ℕ
 addedAll w [] = w
 addedAll w (g ∷ gs) = addedAll (added w (requestOf g)) gs
 
+-- no cause is left, the way down ends at the link's place, and the free head's cell can hang there
 pub record Insertable (causes : List Cause) (w : List ℕ) (r : Request) (link free next : ℕ) : Type 0 where
   pub passes : firstFault causes ≡ none
   pub way : insertionWalk w r ≡ blankAt link
@@ -56,6 +57,7 @@ SlotPlanned w r = InsertionPlanned (slotOrder w r) w r
 abbrev pub GrantPlanned : List ℕ → Request → Insertion → Type 0
 GrantPlanned w r = InsertionPlanned (grantLine w r) w r
 
+-- no cause is left, the number's first hit is k at the link's place, and its removal walk ends at the terminal cell
 pub record Found (w : List ℕ) (n k link leaf cut : ℕ) : Type 0 where
   pub passes : firstFault (revokeLine w n) ≡ none
   pub first : firstHit (numberSearch w n) ≡ k

@@ -1,10 +1,11 @@
 -- Laws of a pool's length and C.
 --   Sized w c                w is as long as a pool of c cells, c from 1 to 2048
+--   cell-inPool              a cell from 1 to c is in a pool of c cells
 --   capacityOf-poolLength    C of a list as long as a pool of c cells is c
 --   wrongLength-iff          the length is right exactly where w is so sized; C is then c
 --   wrongPool-iff            the same with the first word
 -- Assumes nothing.
-use Prim.Native.Nat.{ℕ}
+use Prim.Native.Nat.{ℕ, _<_, _≤_}
 use mathlib.Core.Logic.{_↔_}
 use mathlib.Core.Path.{_≡_, refl, sym, _∙_}
 use mathlib.Core.Bool.{Bool, true, false, not, _&&_, _||_, and-eq-true-iff, true≢false}
@@ -16,7 +17,10 @@ use borrow.Author.Tests.{leb-true, eqb-true, le-leb, eq-eqb, not-false}
 use Rattle.model.specs.Limits.{maxGrants}
 use Rattle.pool.specs.Layout.{capacityPlace}
 pub use Rattle.pool.specs.Capacity.{Sized}
-use Rattle.pool.specs.Capacity.{poolLength, capacityOf, wrongLength, wrongPool}
+use Rattle.pool.specs.Capacity.{poolLength, InPool, capacityOf, wrongLength, wrongPool}
+
+pub cell-inPool : {w : List ℕ} {c k : ℕ} → Sized w c → 0 < k → k ≤ c → InPool w k
+cell-inPool s pos le = record { some = pos; few = omega (arith, s .few, le); long = omega (arith, s .long, le) }
 
 pub capacityOf-poolLength : (w : List ℕ) (c : ℕ) → length w ≡ poolLength c → capacityOf w ≡ c
 unfolding capacityOf

@@ -5,7 +5,7 @@
 -- Assumes nothing.
 use Prim.Native.Nat.{ℕ, _+_, _-_, _*_, _/_, _<_, _≤_}
 use mathlib.Core.Path.{_≡_, refl, sym, _∙_}
-use mathlib.Core.Bool.{Bool, true, false, cond, _&&_}
+use mathlib.Core.Bool.{Bool, true, false, cond}
 use mathlib.Core.List.{List}
 use native.Mathlib.Omega.{arith}
 use lib.ListN.{length, getD}
@@ -16,10 +16,6 @@ use Rattle.pool.specs.Capacity.{capacityOf, wrongLength, wrongPool, leng
 module _ (w : List ℕ) where
   abbrev cells : ℕ
   cells = (length w - 3) / 10
-
-  and-false : (b : Bool) → (b && false) ≡ false
-  and-false true = refl
-  and-false false = refl
 
   pub length-short : length w < 13 → 0 ≡ lengthCapacity w
   unfolding wrongLength capacityOf

@@ -7,13 +7,13 @@
 --   grantAt-same                then the grant is the same
 --   grantAt-withCell-same       the grant that was stored, if it fits
 -- Assumes nothing.
-use Prim.Native.Nat.{ℕ, zero, suc, _+_, _*_, _/_, _%_, _<_, _≤_}
+use Prim.Native.Nat.{ℕ, _+_, _*_, _/_, _%_, _<_, _≤_}
 use mathlib.Core.Path.{_≡_, refl, ap, _∙_}
-use mathlib.Core.Logic.{_≢_}
-use mathlib.Core.List.{List, [], _∷_}
+use mathlib.Core.List.{List}
 use native.Mathlib.Omega.{arith}
-use lib.ListN.{length, getD, set, length-set}
-use lib.Seq.{sets, length-sets, getD-set-same, getD-set-other}
+use lib.ListN.{length, getD}
+use lib.Seq.{sets, length-sets}
+use Rattle.lists.proofs.StoreLaws.{getD-sets-same, getD-sets-other}
 use Rattle.model.specs.declared.Kind.{Kind}
 use Rattle.model.specs.declared.Kind.the-variants.{Bars, Opens}
 use Rattle.model.specs.declared.Grant.{Grant}
@@ -25,23 +25,6 @@ use Rattle.pool.specs.Layout.{headerWords, cellWords, offset, place, fie
 use Rattle.pool.specs.Capacity.{poolLength}
 use Rattle.pool.specs.Cell.{grantAt, cellOf, withCell}
 use Rattle.pool.proofs.LayoutLaws.{offset-lt, place-past-header}
-
--- reads after a run of stores
-getD-sets-other : (l : List ℕ) (i : ℕ) (vs : List ℕ) (j d : ℕ) → ((m : ℕ) → m < length vs → j ≢ i + m) → getD (sets l i vs) j d ≡ getD l j d
-getD-sets-other l i [] j d h = refl
-getD-sets-other l i (a ∷ vs) j d h =
-    getD-sets-other (set l i a) (suc i) vs j d (λ m lt. omega (arith, h (suc m) (omega arith)))
-    ∙ getD-set-other l i j a d (omega (arith, h 0 (omega arith)))
-
-getD-sets-same : (l : List ℕ) (i : ℕ) (vs : List ℕ) (m d : ℕ) → i + length vs ≤ length l → m < length vs → getD (sets l i vs) (i + m) d ≡ getD vs m d
-getD-sets-same l i [] m d h lt = absurd (omega arith)
-getD-sets-same l i (a ∷ vs) zero d h lt =
-    getD-sets-other (set l i a) (suc i) vs (i + 0) d (λ m k. omega arith)
-    ∙ ap (λ (j : ℕ). getD (set l i a) j d) (omega arith)
-    ∙ getD-set-same l i a d (omega arith)
-getD-sets-same l i (a ∷ vs) (suc m) d h lt =
-    ap (λ (j : ℕ). getD (sets (set l i a) (suc i) vs) j d) (omega arith)
-    ∙ getD-sets-same (set l i a) (suc i) vs m d (omega (arith, length-set l i a)) (omega arith)
 
 pub length-withCell : (w : List ℕ) (k : ℕ) (ws : List ℕ) → length (withCell w k ws) ≡ length w
 unfolding withCell

@@ -1,7 +1,7 @@
 -- How long a pool is, and the number of its cells: document 01's C (document 01, "The tree": 3 + 10 × C words, C from 1 to 2048).
 --   poolLength c      the words of a pool of c cells
 --   Sized w c         w is memory for a pool of c cells, c from 1 to 2,048, whatever it holds
---   InPool w k        the words of w reach to the end of cell k, which is one of a pool's cells: from 1 to 2,048
+--   InPool w k        the cell k, from 1 to 2,048, lies in the words w
 --   capacityOf w      C, from the length of w
 --   wrongLength w     fault 1: the pool's length is not as above
 --   wrongPool w       fault 1, except in start and load: that, or the first word is not its C

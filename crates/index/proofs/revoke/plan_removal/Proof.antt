@@ -84,23 +84,25 @@ returns-4 c =
 
 returns-5 : tie.Need-returns-5
 returns-5 c =
-    let found = c .before .before .before .before .before .before in
+    let told = c .before .before .before .before in
+    let found = told .before .before in
     let two = found .before in
     let one = two .before in
     let a = one .before .before .before .args in
     let t = pool-taken (a .pool .now) (one .before .capacity .ensures) (one .if1 .left) in
-    let number = subst (NumberFound (a .pool .now) (a .number)) (c .before .before .before .before .hit .given .1) (found .find-number .ensures) in
+    let number = subst (NumberFound (a .pool .now) (a .number)) (told .hit .given .1) (found .find-number .ensures) in
     let end = ap removalWalkOf (sym (c .enum-told3 .given .1)) ∙ c .before .before .find-terminal .ensures in
     revoke-removal-broken (a .pool .now) _ (t .right) (two .if2 .left) (t .sized) _ _ _ number end
 
 returns-6 : tie.Need-returns-6
 returns-6 c =
-    let found = c .before .before .before .before .before .before .before in
+    let told = c .before .before .before .before .before in
+    let found = told .before .before in
     let two = found .before in
     let one = two .before in
     let a = one .before .before .before .args in
     let t = pool-taken (a .pool .now) (one .before .capacity .ensures) (one .if1 .left) in
-    let number = subst (NumberFound (a .pool .now) (a .number)) (c .before .before .before .before .before .hit .given .1) (found .find-number .ensures) in
+    let number = subst (NumberFound (a .pool .now) (a .number)) (told .hit .given .1) (found .find-number .ensures) in
     let end = ap removalWalkOf (sym (c .before .end .given .1)) ∙ c .before .before .before .find-terminal .ensures in
     revoke-planned (a .pool .now) _ (t .right) (two .if2 .left) (t .sized) _ _ _ number _ _ end
 

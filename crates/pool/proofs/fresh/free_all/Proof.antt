@@ -45,11 +45,13 @@ loop-less c = search needs
 
 loop-again : tie.Need-loop-again Inv-loop μ-loop
 loop-again c =
-    let i = c .before .before .before .before .before .loop .inv in
-    let k = c .before .before .before .before .before .loop .k in
-    let pos = c .before .before .before .before .loop-test .taken in
+    let turn = c .before .before .before .before in
+    let l = turn .before .loop in
+    let i = l .inv in
+    let k = l .k in
+    let pos = turn .loop-test .taken in
     let e = c .before .before .store-free .ensures in
-    let long : poolLength k ≤ length (c .before .before .before .before .before .loop .pool) = omega (arith, i .0, i .1) in (
+    let long : poolLength k ≤ length (l .pool) = omega (arith, i .0, i .1) in (
       omega (arith, i .0),
       ap length e ∙ length-withCell _ _ _ ∙ i .1,
       free-next _ _ pos (i .0),
