@@ -91,7 +91,8 @@ fn visit(
     hits: &mut HitCells,
     counters: &mut Counters,
 ) -> bool
-    requires { ⌜ Ready (now pool) cells (now hits) (now counters) × (below ≤ levels) × (0 < k) × (k ≤ cells) × OneSided (now range) × Shape parent × (halved < axes) × (axisAfter halved ≡ axisOf (levels - below)) × (meets (narrow parent halved low high) (now range) ≡ true) ⌝ }
+    requires { ⌜ Ready (now pool) cells (now hits) (now counters) × (below ≤ levels) × (0 < k) × (k ≤ cells) × OneSided (now range) × Shape parent
+        × (halved < axes) × (axisAfter halved ≡ axisOf (levels - below)) × (meets (narrow parent halved low high) (now range) ≡ true) ⌝ }
     ensures { λ r. ⌜ Encodes cells r (now (hits .exit)) (now (counters .exit)) (visitBy (now (pool .entry)) cells (now (range .entry)) (enter (now (pool .entry)) cells (now (range .entry)) below) (record { level = levels - below; link = link }) k (narrow parent halved low high) (searchIn true (now (hits .entry)) (now (counters .entry)))) ⌝ }
 {
     let region = narrow(parent, halved, low, high);
@@ -149,7 +150,8 @@ fn enter(
     hits: &mut HitCells,
     counters: &mut Counters,
 ) -> bool
-    requires { ⌜ Ready (now pool) cells (now hits) (now counters) × (below ≤ levels) × (link < length (now pool)) × OneSided (now range) × Shape region × (axis ≡ axisOf (levels - below)) × (meets region (now range) ≡ true) ⌝ }
+    requires { ⌜ Ready (now pool) cells (now hits) (now counters) × (below ≤ levels) × (link < length (now pool)) × OneSided (now range)
+        × Shape region × (axis ≡ axisOf (levels - below)) × (meets region (now range) ≡ true) ⌝ }
     ensures { λ r. ⌜ Encodes cells r (now (hits .exit)) (now (counters .exit)) (enter (now (pool .entry)) cells (now (range .entry)) below link (narrow region axis low high) (searchIn true (now (hits .entry)) (now (counters .entry)))) ⌝ }
 {
     let k = wide(pool[link]);

@@ -50,7 +50,8 @@ pub extern "C" fn lg_grant(
     quarter_from: u16,
     quarter_to: u16,
 ) -> u64
-    ensures { λ r. ⌜ PacksPool r (now (pool .exit)) (grantCall (now (pool .entry)) (request number rank kind (boxOf «staff_from» «staff_to» «door_from» «door_to» «quarter_from» «quarter_to»))) ⌝ }
+    ensures { λ r. ⌜ PacksPool r (now (pool .exit))
+        (grantCall (now (pool .entry)) (request number rank kind (boxOf «staff_from» «staff_to» «door_from» «door_to» «quarter_from» «quarter_to»))) ⌝ }
 {
     let bounds = Box {
         staff_from,
@@ -83,7 +84,8 @@ pub extern "C" fn lg_list(
     quarter_to: u16,
     list: &mut [u16],
 ) -> u64
-    ensures { λ r. ⌜ PacksLent pack r (now (list .exit)) (listCall (now (pool .entry)) (boxOf «staff_from» «staff_to» «door_from» «door_to» «quarter_from» «quarter_to») (now (list .entry))) ⌝ }
+    ensures { λ r. ⌜ PacksLent pack r (now (list .exit))
+        (listCall (now (pool .entry)) (boxOf «staff_from» «staff_to» «door_from» «door_to» «quarter_from» «quarter_to») (now (list .entry))) ⌝ }
 {
     let bounds = Box {
         staff_from,
@@ -121,7 +123,8 @@ pub extern "C" fn lg_count(pool: &[u16]) -> u64
 // Refuses 1, 2, 9 and 14, in this order. Bytes past the file stay.
 #[no_mangle]
 pub extern "C" fn lg_write(pool: &[u16], door_from: u16, door_to: u16, bytes: &mut [u8]) -> u64
-    ensures { λ r. ⌜ PacksLent packLength r (now (bytes .exit)) (writeCall (now (pool .entry)) (record { from = «door_from»; to = «door_to» }) (now (bytes .entry))) ⌝ }
+    ensures { λ r. ⌜ PacksLent packLength r (now (bytes .exit))
+        (writeCall (now (pool .entry)) (record { from = «door_from»; to = «door_to» }) (now (bytes .entry))) ⌝ }
 {
     pack_written(file_calls::write::write(pool, door_from, door_to, bytes))
 }

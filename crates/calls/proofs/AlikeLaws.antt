@@ -47,7 +47,8 @@ module _ {w v : List ℕ} {b d : Book} (h : Represents w b) (k : Represents v d)
   list-alike q lent from to =
       list-refines h q lent .same ∙ bookList-same b d q lent (overlapping-held q from to) ∙ sym (list-refines k q lent .same)
 
-  pub decide-alike : (staff door quarter : ℕ) → T (holds doors door) → responseOf (decideCall w staff door quarter) ≡ responseOf (decideCall v staff door quarter)
+  pub decide-alike : (staff door quarter : ℕ) → T (holds doors door)
+      → responseOf (decideCall w staff door quarter) ≡ responseOf (decideCall v staff door quarter)
   decide-alike staff door quarter at =
       decide-refines h staff door quarter .same
       ∙ bookDecide-same b d staff door quarter (overlapping-held (pointBox staff door quarter) at at)

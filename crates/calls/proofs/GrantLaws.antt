@@ -93,7 +93,8 @@ module _ {w : List ℕ} {b : Book} (h : Represents w b) (r : Request) (fits : Re
   unfolding grantBroken
   grant-whole = rw (number-found h (r .number) .whole, numberLive-isLive h (r .number)) (go (isLive b (r .number)) request-leads)
     where
-      go : (live : Bool) → (live ≡ false → Leads w (pointOf (requested r)) (h .tree)) → (not live && (insertionBroken (insertionWalk w r) || freeBroken w)) ≡ false
+      go : (live : Bool) → (live ≡ false → Leads w (pointOf (requested r)) (h .tree))
+          → (not live && (insertionBroken (insertionWalk w r) || freeBroken w)) ≡ false
       go true f = refl
       go false f = rw (f refl .way) (freeBroken-chain w (represents-capacity h) (h .linked .free))
 
@@ -118,9 +119,11 @@ module _ {w : List ℕ} {b : Book} (h : Represents w b) (r : Request) (fits : Re
       let upright = causes-absent _ _ (causes-absent _ _ (zero .1) .1) in
       let new = causes-absent _ _ (upright .1) in
       let full = causes-absent _ _ (new .1) in
-      go (h .free) (h .linked) (represents-count h) (eqb-false (r .number) 0 (zero .0)) (upright .0) (new .0) (eqb-false (length (b .live)) (b .capacity) (full .0))
+      go (h .free) (h .linked) (represents-count h) (eqb-false (r .number) 0 (zero .0)) (upright .0) (new .0)
+      (eqb-false (length (b .live)) (b .capacity) (full .0))
     where
-      go : (ks : List ℕ) → Linked w (b .capacity) (h .tree) ks → length (b .live) + length ks ≡ b .capacity → ¬ (r .number ≡ 0) → reversedBox (r .bounds) ≡ false
+      go : (ks : List ℕ) → Linked w (b .capacity) (h .tree) ks → length (b .live) + length ks ≡ b .capacity → ¬ (r .number ≡ 0)
+          → reversedBox (r .bounds) ≡ false
           → isLive b (r .number) ≡ false → ¬ (length (b .live) ≡ b .capacity)
           → Represents (grantedWords w r (insertionWalk w r)) (withLive b (insertBy grantNumber (requested r) (b .live)))
       go [] linked count some upright new room = absurd (omega arith)

@@ -89,7 +89,8 @@ bookGrant-adds b g t new room =
     rw (ne-eqb (g .number) 0 (λ e. omega (arith, t .numbered)), known-kind (g .kind), t .upright, new, ne-eqb (length (b .live)) (b .capacity) (λ e. omega arith))
     (ap (λ (x : Grant). record { state = withLive b (insertBy grantNumber x (b .live)); answer = accepted []; lent = [] }) (requested-requestOf g))
 
-module _ {w : List ℕ} {b : Book} (h : Represents w b) (g : Grant) (t : Grantable g) (new : isLive b (g .number) ≡ false) (room : length (b .live) < b .capacity) where
+module _ {w : List ℕ} {b : Book} (h : Represents w b) (g : Grant) (t : Grantable g) (new : isLive b (g .number) ≡ false)
+    (room : length (b .live) < b .capacity) where
   pub grant-adds : (grantCall w (requestOf g) .answer ≡ accepted []) × Represents (grantCall w (requestOf g) .state) (withLive b (insertBy grantNumber g (b .live)))
   grant-adds =
       let agrees = rw (bookGrant-adds b g t new room) at (grant-refines h (requestOf g) (requestOf-fits (t .fits))) in
@@ -128,7 +129,8 @@ module _ {doors : Interval} {gs : List Grant} (s : FileSet doors gs) where
     set-represents hs sorted =
         let perm : Perm gs hs = perm-sym (rw sorted at (perm-sortBy grantNumber hs)) in
         let right : (g : Grant) → List·Memᴰ g hs → Grantable g = λ g m. set-grantable g (perm-mem (perm-sym perm) m) in
-        let apart : Distinct (map grantNumber (hs ++ [])) = rw append-nil (perm-distinct (perm-map grantNumber perm) (rises-distinct grantNumber (set-rises s))) in
+        let apart : Distinct (map grantNumber (hs ++ [])) =
+        rw append-nil (perm-distinct (perm-map grantNumber perm) (rises-distinct grantNumber (set-rises s))) in
         rw (append-nil, sorted) at
         (grantAll-represents hs (represents-freshPool c (z .some) (z .few)) right apart (omega (arith, length-perm perm)))
 
@@ -163,7 +165,8 @@ module _ {c : ℕ} (memory f : List ℕ) (z : Sized memory c) (below : Below byt
   pub accepted-represents : (gs : List Grant) × Represents (loadCall memory f .state) (bookOf c gs)
   accepted-represents = let set = accepted-files f below .0 (load-causes .0) in go (set .0) (set .1) (set .2) (set .3)
     where
-      go : (doors : Interval) (gs : List Grant) → FileSet doors gs → f ≡ fileOf doors gs → (hs : List Grant) × Represents (loadCall memory f .state) (bookOf c hs)
+      go : (doors : Interval) (gs : List Grant) → FileSet doors gs → f ≡ fileOf doors gs
+          → (hs : List Grant) × Represents (loadCall memory f .state) (bookOf c hs)
       go doors gs s same =
           let room : length gs ≤ c = omega (arith, load-causes .1, ap totalIn same, totalIn-fileOf doors gs) in
           (gs, subst (λ (x : List ℕ). Represents (loadCall memory x .state) (bookOf c gs)) (sym same) (load-represents s memory z room))

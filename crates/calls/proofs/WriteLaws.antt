@@ -35,10 +35,12 @@ use Rattle.calls.specs.Walks.{doorSearch, hitsOf}
 use Rattle.calls.specs.Causes.{lengthNeeded}
 use Rattle.calls.specs.Order.{writeOrder}
 use Rattle.calls.specs.FileCalls.{writeCall}
-use Rattle.calls.proofs.Represents.{grantNumber, Carried, Represents, represents-pool, represents-cell, represents-live, represents-rises, represents-count, Hits, represents-hits}
+use Rattle.calls.proofs.Represents.{grantNumber, Carried, Represents, represents-pool, represents-cell, represents-live, represents-rises}
+use Rattle.calls.proofs.Represents.{represents-count, Hits, represents-hits}
 
 -- no cause answers where the pool is right, the doors are in order, no walk is broken and the lent bytes are enough
-write-order : (w : List ℕ) (doors : Interval) (lent : List ℕ) {broken : Bool} (hits : List ℕ) → wrongPool w ≡ false → reversedDoors doors ≡ false → broken ≡ false
+write-order : (w : List ℕ) (doors : Interval) (lent : List ℕ) {broken : Bool} (hits : List ℕ) → wrongPool w ≡ false → reversedDoors doors ≡ false
+    → broken ≡ false
     → lengthNeeded hits ≤ length lent → firstFault (writeOrder w doors lent broken hits) ≡ none
 unfolding writeOrder firstFault
 write-order w doors lent hits pool order whole room = rw (pool, order, whole, le-ltb (length lent) (lengthNeeded hits) room)

@@ -26,7 +26,8 @@ use Rattle.adt.specs.Insert.{InsertionWalk, inserted}
 use Rattle.adt.specs.Insert as insert
 use Rattle.adt.specs.Remove.{RemovalWalk, removed}
 use Rattle.adt.specs.Remove as remove
-use Rattle.calls.specs.Walks.{boxSearch, pointSearch, numberSearch, fullSearch, isBroken, hitsOf, firstHit, firstSpotOf, grantsHit, insertionWalk, removalOf}
+use Rattle.calls.specs.Walks.{boxSearch, pointSearch, numberSearch, fullSearch, isBroken, hitsOf, firstHit, firstSpotOf, grantsHit}
+use Rattle.calls.specs.Walks.{insertionWalk, removalOf}
 use Rattle.calls.specs.Causes.{grantBroken, revokeBroken}
 use Rattle.calls.specs.Order.{startOrder, grantOrder, revokeOrder, listOrder, lookOrder}
 

@@ -7,7 +7,8 @@ use mathlib.Core.Bool.{Bool, not}
 use mathlib.Core.List.{List, [], _∷_, _++_}
 use lib.ListN.{length}
 use Rattle.model.specs.declared.Box.{Box}
-use Rattle.model.specs.declared.Fault.the-variants.{BadPool, Reversed, ZeroNumber, UnknownKind, AlreadyLive, Full, NotLive, ListTooShort, BrokenLinks, BufferTooShort}
+use Rattle.model.specs.declared.Fault.the-variants.{BadPool, Reversed, ZeroNumber, UnknownKind, AlreadyLive, Full, NotLive, ListTooShort, BrokenLinks}
+use Rattle.model.specs.declared.Fault.the-variants.{BufferTooShort}
 use Rattle.model.specs.Interval.{Interval}
 use Rattle.model.specs.Refusal.{Cause, _if_}
 use Rattle.model.specs.Arguments.{reversedBox, reversedDoors, zeroNumber, unknownKind}

@@ -36,7 +36,8 @@ pub represents-calls : {w : List ℕ} {b : Book} → Represents w b → (calls :
     → (responses wordsStep w calls ≡ responses bookStep b calls) × Represents (after wordsStep w calls) (after bookStep b calls)
 represents-calls {w} {b} h calls fit = calls-refine wordsStep bookStep Represents CallFits call-refines w b calls fit h
 
-pub represents-files : {w : List ℕ} {b : Book} → Represents w b → (doors : Interval) → DoorRange doors → Writes w doors (fileOf doors (touching doors (b .live)))
+pub represents-files : {w : List ℕ} {b : Book} → Represents w b → (doors : Interval) → DoorRange doors
+    → Writes w doors (fileOf doors (touching doors (b .live)))
 represents-files h doors range = represents-writes h doors (le-ltb (doors .to) (doors .from) (range .order))
 
 pub memory-sized : {c : ℕ} {memory : List ℕ} → Memory c memory → Sized memory c

@@ -54,7 +54,8 @@ firstDifference-taken [] (h ∷ hs) = (_, refl)
 firstDifference-taken (g ∷ gs) [] = (_, refl)
 firstDifference-taken (g ∷ gs) (h ∷ hs) = go (sameGrant g h) (firstDifference-taken gs hs)
   where
-    go : (b : Bool) → Taken (matchedAnswer (firstDifference gs hs)) → Taken (matchedAnswer (cond b (firstDifference gs hs) (Differs (min (g .number) (h .number)))))
+    go : (b : Bool) → Taken (matchedAnswer (firstDifference gs hs))
+        → Taken (matchedAnswer (cond b (firstDifference gs hs) (Differs (min (g .number) (h .number)))))
     go true rest = rest
     go false rest = (_, refl)
 

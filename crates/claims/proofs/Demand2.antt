@@ -70,7 +70,8 @@ module _ {w : List ℕ} {b : Book} (h : Represents w b) where
       rw (ap (λ (t : Response). take n (t .lent)) same ∙ wrote)
       (record { member = member; rising = rises-getD (λ n. n) 0 (rises-map grantNumber (rises-filter grantNumber (λ g. overlaps (g .bounds) q) (represents-rises h))) })
     where
-      member : (n : ℕ) → List·Memᴰ n (map grantNumber (overlapping q (b .live))) ↔ ((g : Grant) × List·Memᴰ g (b .live) × (g .number ≡ n) × Overlap (g .bounds) q)
+      member : (n : ℕ)
+          → List·Memᴰ n (map grantNumber (overlapping q (b .live))) ↔ ((g : Grant) × List·Memᴰ g (b .live) × (g .number ≡ n) × Overlap (g .bounds) q)
       member n = (
         (λ m.
             let o = Memᴰ·of-map grantNumber (overlapping q (b .live)) m in

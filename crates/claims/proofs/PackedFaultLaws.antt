@@ -17,7 +17,8 @@ use borrow.Author.Tests.{ltb-true}
 use Rattle.lists.specs.Tests.{every}
 use Rattle.lists.proofs.EveryLaws.{every-append}
 use Rattle.model.specs.declared.Fault.{Fault}
-use Rattle.model.specs.declared.Fault.the-variants.{BadPool, Reversed, ZeroNumber, UnknownKind, AlreadyLive, Full, NotLive, ListTooShort, BrokenLinks, BadLength, BadLayout, BadChecksum, BadRecord, BufferTooShort}
+use Rattle.model.specs.declared.Fault.the-variants.{BadPool, Reversed, ZeroNumber, UnknownKind, AlreadyLive, Full, NotLive, ListTooShort, BrokenLinks}
+use Rattle.model.specs.declared.Fault.the-variants.{BadLength, BadLayout, BadChecksum, BadRecord, BufferTooShort}
 use Rattle.model.specs.Fault.{faultNumber, faultValues}
 use Rattle.model.specs.Answer.{Answer, refusal}
 use Rattle.model.specs.Refusal.{Cause, Step, firstFault, stepBy, refusing}

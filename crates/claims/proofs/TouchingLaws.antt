@@ -35,7 +35,8 @@ overlaps-door door quarter g fits =
 module _ {w : List ℕ} {b : Book} (h : Represents w b) where
   found : (door quarter : ℕ) → Hits w (b .live) (λ g. overlaps (g .bounds) (doorBox door quarter)) (boxSearch w (doorBox door quarter))
   found door quarter =
-      represents-hits h (rangeOfBox (doorBox door quarter)) (λ g. overlaps (g .bounds) (doorBox door quarter)) (λ g fits. box-hits g fits (doorBox door quarter))
+      represents-hits h (rangeOfBox (doorBox door quarter)) (λ g. overlaps (g .bounds) (doorBox door quarter))
+      (λ g fits. box-hits g fits (doorBox door quarter))
 
   pub grants-touching : (door quarter : ℕ) → grantsTouching w door quarter ≡ filter (atDoor door quarter) (b .live)
   grants-touching door quarter =

@@ -36,4 +36,5 @@ abbrev pub responseResult : Response → LineResult
 responseResult t = made (t .answer)
 
 unfoldable pub JournalsRespond : Type 0
-JournalsRespond = (w : List ℕ) (lines : List (List ℕ)) → AllCalls lines → lineResults wordsStep w lines ≡ map responseResult (responses wordsStep w (callsIn lines))
+JournalsRespond =
+    (w : List ℕ) (lines : List (List ℕ)) → AllCalls lines → lineResults wordsStep w lines ≡ map responseResult (responses wordsStep w (callsIn lines))

@@ -99,7 +99,8 @@ module _ (w f : List ℕ) where
                 ∙ row-fails w [] loaded (fileCauses f) (last-cause ∷ []) load-accepted
                 ∙ first-holds w [] loaded _ _ (lt-ltb (capacityOf w) (totalIn f) (omega (arith, cells, t, many))))
 
-            pub load-done : total ≤ c → ((i : ℕ) → getD f i 0 < byteValues) → {left : List ℕ} → left ≡ addedAll (freshPool c) (grantsIn f) → Leaves (accepted []) left (loadCall w f)
+            pub load-done : total ≤ c → ((i : ℕ) → getD f i 0 < byteValues) → {left : List ℕ} → left ≡ addedAll (freshPool c) (grantsIn f)
+                → Leaves (accepted []) left (loadCall w f)
             unfolding loadCall loadOrder
             load-done few bytes made =
                 let cells = length-taken w e n .capacity in

@@ -96,7 +96,8 @@ module _ (w cells : List ℕ) (total : ℕ) where
       let gs = grantsFrom w cells first n in
       let same : chunk i grantsIn ≡ gs = chunk-cells i ∙ rw count in
       let size : length gs ≡ n = length-grantsFrom w cells first n (omega (arith, count, at .room, at .few)) in
-      let whole : filled ≡ sets b 0 (started i n ++ flatMap encodeRecord gs) = f ∙ rw s (sets-append b 0 (started i n) (flatMap encodeRecord gs) recordsPlace refl) in
+      let whole : filled ≡ sets b 0 (started i n ++ flatMap encodeRecord gs) =
+      f ∙ rw s (sets-append b 0 (started i n) (flatMap encodeRecord gs) recordsPlace refl) in
       rw same (record-block b i n gs long size (omega (arith, count)) whole e)
 
   -- block i of the file, and the blocks of records before a place
@@ -145,7 +146,8 @@ module _ (w cells : List ℕ) (total : ℕ) where
         let xs = front i in
         let next : i ≡ suc k = omega arith in
         let after : i + 1 - 1 ≡ suc k = omega arith in
-        let size : length xs ≡ blockBytes * i = length-append (take blockBytes b) (blocksAs k) ∙ omega (arith, length-take-le blockBytes b room, length-blocksAs k) in
+        let size : length xs ≡ blockBytes * i =
+        length-append (take blockBytes b) (blocksAs k) ∙ omega (arith, length-take-le blockBytes b room, length-blocksAs k) in
         let more : front (i + 1) ≡ xs ++ blockAs i =
         ap (λ (j : ℕ). take blockBytes b ++ blocksAs j) after
         ∙ ap (λ (l : List ℕ). take blockBytes b ++ l) (blocks-more k ∙ ap (λ (j : ℕ). blocksAs k ++ blockAs j) (sym next))

@@ -16,7 +16,8 @@ use pool::layout::MAX_CAPACITY;
 use pool::layout::capacity;
 
 pub fn write(pool: &[u16], door_from: u16, door_to: u16, bytes: &mut [u8]) -> Written
-    ensures { λ r. ⌜ Lends (writtenAnswer r) (now (bytes .exit)) (writeCall (now (pool .entry)) (record { from = «door_from»; to = «door_to» }) (now (bytes .entry))) ⌝ }
+    ensures { λ r. ⌜ Lends (writtenAnswer r) (now (bytes .exit))
+        (writeCall (now (pool .entry)) (record { from = «door_from»; to = «door_to» }) (now (bytes .entry))) ⌝ }
 {
     let cells = capacity(pool);
     if cells == 0 {

@@ -40,7 +40,8 @@ fn write_record(pool: &[u16], cell: usize, block: &mut [u8], at: usize)
 // The records of the grants in so many cells, from the first on.
 fn write_records(pool: &[u16], cells: &HitCells, first: usize, count: usize, block: &mut [u8])
     requires { ⌜ CellsAt (now pool) (now cells) (first + count) × (count ≤ recordsPerBlock) × (length (now block) ≡ blockBytes) ⌝ }
-    ensures { λ r. ⌜ now (block .exit) ≡ sets (now (block .entry)) recordsPlace (flatMap encodeRecord (map (grantAt (now (pool .entry))) (take count (drop first (now (cells .entry)))))) ⌝ }
+    ensures { λ r. ⌜ now (block .exit)
+        ≡ sets (now (block .entry)) recordsPlace (flatMap encodeRecord (map (grantAt (now (pool .entry))) (take count (drop first (now (cells .entry)))))) ⌝ }
 {
     let mut i: usize = 0;
     while i < count {
@@ -64,7 +65,8 @@ fn write_block(pool: &[u16], cells: &HitCells, total: usize, number: usize, bloc
 // The same at the start of longer bytes.
 fn write_first(pool: &[u16], cells: &HitCells, total: usize, number: usize, bytes: &mut [u8])
     requires { ⌜ CellsAt (now pool) (now cells) total × (0 < number) × (number < blocksFor total) × (blockBytes ≤ length (now bytes)) ⌝ }
-    ensures { λ r. ⌜ now (bytes .exit) ≡ recordBlock number (chunk number (map (grantAt (now (pool .entry))) (take total (now (cells .entry))))) ++ drop blockBytes (now (bytes .entry)) ⌝ }
+    ensures { λ r. ⌜ now (bytes .exit) ≡ recordBlock number (chunk number (map (grantAt (now (pool .entry))) (take total (now (cells .entry)))))
+        ++ drop blockBytes (now (bytes .entry)) ⌝ }
 {
     write_block(pool, cells, total, number, &mut bytes[..BLOCK_BYTES]);
 }
@@ -86,7 +88,9 @@ fn write_at(pool: &[u16], cells: &HitCells, total: usize, number: usize, bytes: 
 // The blocks of records, behind block 0.
 fn write_blocks(pool: &[u16], cells: &HitCells, total: usize, blocks: usize, bytes: &mut [u8])
     requires { ⌜ CellsAt (now pool) (now cells) total × (blocks ≡ blocksFor total) × (blockBytes * blocksFor total ≤ length (now bytes)) ⌝ }
-    ensures { λ r. ⌜ now (bytes .exit) ≡ overwrite (take blockBytes (now (bytes .entry)) ++ recordsFile (map (grantAt (now (pool .entry))) (take total (now (cells .entry)))) total) (now (bytes .entry)) ⌝ }
+    ensures { λ r. ⌜ now (bytes .exit)
+        ≡ overwrite (take blockBytes (now (bytes .entry)) ++ recordsFile (map (grantAt (now (pool .entry))) (take total (now (cells .entry)))) total)
+        (now (bytes .entry)) ⌝ }
 {
     let mut i: usize = 1;
     while i < blocks {
@@ -113,7 +117,8 @@ pub fn write_file(
     bytes: &mut [u8],
 )
     requires { ⌜ CellsAt (now pool) (now cells) total × (blockBytes * blocksFor total ≤ length (now bytes)) ⌝ }
-    ensures { λ r. ⌜ now (bytes .exit) ≡ overwrite (fileOf (record { from = from; to = to }) (map (grantAt (now (pool .entry))) (take total (now (cells .entry))))) (now (bytes .entry)) ⌝ }
+    ensures { λ r. ⌜ now (bytes .exit)
+        ≡ overwrite (fileOf (record { from = from; to = to }) (map (grantAt (now (pool .entry))) (take total (now (cells .entry))))) (now (bytes .entry)) ⌝ }
 {
     write_front(total, from, to, bytes);
     write_blocks(pool, cells, total, blocks_for(total), bytes);

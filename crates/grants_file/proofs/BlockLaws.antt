@@ -20,7 +20,8 @@ use lib.Seq.{take-at, drop-at, getD-append-add, take-all, take-take, drop-drop, 
 use Rattle.lists.specs.Tests.{sameNumbers}
 use Rattle.lists.specs.Ranges.{countFrom}
 use Rattle.lists.proofs.RangeLaws.{length-countFrom}
-use Rattle.lists.proofs.ListLaws.{countFrom-mem, elements-joined, parts-joined, parts-flatMap, map-same, flatMap-same, flatMap-map, length-flatMap, sameNumbers-true, every-zero, zero-every}
+use Rattle.lists.proofs.ListLaws.{countFrom-mem, elements-joined, parts-joined, parts-flatMap, map-same, flatMap-same, flatMap-map, length-flatMap}
+use Rattle.lists.proofs.ListLaws.{sameNumbers-true, every-zero, zero-every}
 use Rattle.model.specs.declared.Grant.{Grant}
 use Rattle.model.specs.Interval.{Interval}
 use Rattle.model.specs.Values.{wordValues, byteValues, Below, GrantFits}

@@ -52,7 +52,8 @@ module _ (f : List ℕ) (i : ℕ) where
 
     pub count-last : 0 < countOf (blockAt f i) → ltb recordsPerBlock (countOf (blockAt f i)) ≡ wrongCount f i
     unfolding wrongCount
-    count-last h = rw (eq-eqb (suc i) (blocksIn f) (sym (add-one i) ∙ last), le-leb 1 (countOf (blockAt f i)) h) (sym (not-leb (countOf (blockAt f i)) recordsPerBlock))
+    count-last h =
+        rw (eq-eqb (suc i) (blocksIn f) (sym (add-one i) ∙ last), le-leb 1 (countOf (blockAt f i)) h) (sym (not-leb (countOf (blockAt f i)) recordsPerBlock))
 
 -- a block alone
 module _ (f : List ℕ) {b : List ℕ} {x : Defect} where

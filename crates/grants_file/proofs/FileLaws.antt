@@ -17,7 +17,8 @@ use lib.ListN.{length, take, drop, length-append, length-take, length-drop}
 use lib.Seq.{take-all}
 use Rattle.lists.specs.Ranges.{countFrom}
 use Rattle.lists.proofs.RangeLaws.{length-countFrom}
-use Rattle.lists.proofs.ListLaws.{take-mem, drop-mem, countFrom-suc, countFrom-mem, parts-joined, part-flatMap, map-inverse, flatMap-same, flatMap-map, length-flatMap, mem-flatMap}
+use Rattle.lists.proofs.ListLaws.{take-mem, drop-mem, countFrom-suc, countFrom-mem, parts-joined, part-flatMap, map-inverse, flatMap-same}
+use Rattle.lists.proofs.ListLaws.{flatMap-map, length-flatMap, mem-flatMap}
 use Rattle.model.specs.declared.Grant.{Grant}
 use Rattle.model.specs.Interval.{Interval}
 use Rattle.model.specs.Values.{byteValues, Below}
@@ -29,7 +30,8 @@ use Rattle.grants_file.specs.File.{recordBlocks, blocksFor, countIn, chu
 use Rattle.grants_file.specs.FileSets.{FileSet}
 use Rattle.grants_file.proofs.BytesLaws.{below-flatMap}
 use Rattle.grants_file.proofs.RecordLaws.{decode-encode}
-use Rattle.grants_file.proofs.BlockLaws.{headerBlock-below, recordBlock-below, length-headerBlock, length-recordBlock, recordsOf-recordBlock, length-decoded}
+use Rattle.grants_file.proofs.BlockLaws.{headerBlock-below, recordBlock-below, length-headerBlock, length-recordBlock, recordsOf-recordBlock}
+use Rattle.grants_file.proofs.BlockLaws.{length-decoded}
 
 flatMap-from-one : {A : Type 0} (f g : ℕ → List A) (n : ℕ) → ((i : ℕ) → i < n → f (suc i) ≡ g (suc i)) → flatMap f (countFrom 1 n) ≡ flatMap g (countFrom 1 n)
 flatMap-from-one f g n h =
@@ -79,7 +81,8 @@ module _ (doors : Interval) (gs : List Grant) where
       let after = blocksFor (length gs) - suc i in
       let whole : blocksFor (length gs) ≡ i + suc after = omega arith in
       ap (λ (l : List ℕ). bytesAt l (blockBytes * i) blockBytes) (fileOf-blocks ∙ ap (λ (n : ℕ). flatMap (blockOf doors gs) (countFrom 0 n)) whole)
-      ∙ part-flatMap blockBytes i after (blockOf doors gs) 0 (λ j low high. length-blockOf j) (le-of-eq (length-blockOf (0 + i))) (λ more. length-blockOf (0 + i))
+      ∙ part-flatMap blockBytes i after (blockOf doors gs) 0 (λ j low high. length-blockOf j) (le-of-eq (length-blockOf (0 + i)))
+      (λ more. length-blockOf (0 + i))
       ∙ ap (blockOf doors gs) (zero-add i)
 
   pub totalIn-fileOf : totalIn (fileOf doors gs) ≡ length gs
@@ -97,7 +100,9 @@ module _ (doors : Interval) (gs : List Grant) where
   pub recordsOf-fileOf : (i : ℕ) → i < recordBlocks (length gs)
       → recordsOf (blockAt (fileOf doors gs) (suc i)) (countIn (totalIn (fileOf doors gs)) (suc i)) ≡ map encodeRecord (chunk (suc i) gs)
   unfolding blockOf
-  recordsOf-fileOf i h = rw (blockAt-fileOf (suc i) (omega arith), countIn-fileOf (suc i)) (recordsOf-recordBlock (suc i) (chunk (suc i) gs) (omega (arith, length-chunk (suc i) gs)))
+  recordsOf-fileOf i h =
+      rw (blockAt-fileOf (suc i) (omega arith), countIn-fileOf (suc i))
+      (recordsOf-recordBlock (suc i) (chunk (suc i) gs) (omega (arith, length-chunk (suc i) gs)))
 
   pub grantsIn-fileOf : grantsIn (fileOf doors gs) ≡ gs
   unfolding grantsIn
@@ -120,7 +125,8 @@ length-grantsOf : (f : List ℕ) (i : ℕ) → length (grantsOf f i) ≡ countIn
 unfolding grantsOf
 length-grantsOf f i = length-decoded (blockAt f i) (countIn (totalIn f) i)
 
-length-grants : (f : List ℕ) (k m : ℕ) → totalIn f ≤ recordsPerBlock * (k + m) → length (flatMap (grantsOf f) (countFrom (suc k) m)) ≡ totalIn f - recordsPerBlock * k
+length-grants : (f : List ℕ) (k m : ℕ) → totalIn f ≤ recordsPerBlock * (k + m)
+    → length (flatMap (grantsOf f) (countFrom (suc k) m)) ≡ totalIn f - recordsPerBlock * k
 unfolding flatMap countFrom
 length-grants f k zero h = omega arith
 length-grants f k (suc m) h =
@@ -160,7 +166,8 @@ blocks-joined f n e = parts-joined blockBytes 0 n f ∙ take-all (blockBytes * n
 
 pub fileOf-below : (doors : Interval) (gs : List Grant) → FileSet doors gs → Below byteValues (fileOf doors gs)
 unfolding blockOf
-fileOf-below doors gs s = rw fileOf-blocks (below-flatMap byteValues (blockOf doors gs) (countFrom 0 (blocksFor (length gs))) (λ i m. block i (countFrom-mem 0 _ i m .1)))
+fileOf-below doors gs s =
+    rw fileOf-blocks (below-flatMap byteValues (blockOf doors gs) (countFrom 0 (blocksFor (length gs))) (λ i m. block i (countFrom-mem 0 _ i m .1)))
   where
     block : (i : ℕ) → i < 0 + blocksFor (length gs) → Below byteValues (blockOf doors gs i)
     block zero h = headerBlock-below (length gs) doors (omega (arith, s .few)) (omega (arith, s .doors .order, s .doors .fits)) (s .doors .fits)

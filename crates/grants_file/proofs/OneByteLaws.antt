@@ -35,7 +35,8 @@ use Rattle.grants_file.proofs.DefectLaws.{Clear, clear-front, clear-fla
 use Rattle.grants_file.proofs.CauseLaws.{wrongBlockCount-iff, Passes, accepted-iff, accepted-block}
 use Rattle.grants_file.proofs.FileLaws.{length-blockAt}
 
-module _ (b : List ℕ) (i v : ℕ) (long : length b ≡ blockBytes) (below : Below byteValues b) (inside : i < blockBytes) (byte : v < byteValues) (other : v ≢ getD b i 0) where
+module _ (b : List ℕ) (i v : ℕ) (long : length b ≡ blockBytes) (below : Below byteValues b) (inside : i < blockBytes) (byte : v < byteValues)
+    (other : v ≢ getD b i 0) where
   -- the check of other bytes is another
   bytes-differ : i < checksumPlace → be16At b checksumPlace ≡ checksum (take checksumPlace b)
       → be16At (set b i v) checksumPlace ≡ checksum (take checksumPlace (set b i v)) → ⊥

@@ -16,7 +16,8 @@ use Rattle.lists.proofs.DistinctLaws.{Distinct, distinct-more}
 pub distinct-key : {A K : Type 0} (key : A → K) {xs : List A} → Distinct (map key xs) → (x y : A) → List·Memᴰ x xs → List·Memᴰ y xs → key x ≡ key y → x ≡ y
 distinct-key key {xs = x ∷ xs} (distinct-more n d) y z (List·Memᴰ·head e) (List·Memᴰ·head f) q = e ∙ sym f
 distinct-key key {xs = x ∷ xs} (distinct-more n d) y z (List·Memᴰ·head e) (List·Memᴰ·tail j) q = absurd (n (Memᴰ·cast (ap key (sym e) ∙ q) (Memᴰ·map key j)))
-distinct-key key {xs = x ∷ xs} (distinct-more n d) y z (List·Memᴰ·tail i) (List·Memᴰ·head f) q = absurd (n (Memᴰ·cast (ap key (sym f) ∙ sym q) (Memᴰ·map key i)))
+distinct-key key {xs = x ∷ xs} (distinct-more n d) y z (List·Memᴰ·tail i) (List·Memᴰ·head f) q =
+    absurd (n (Memᴰ·cast (ap key (sym f) ∙ sym q) (Memᴰ·map key i)))
 distinct-key key {xs = x ∷ xs} (distinct-more n d) y z (List·Memᴰ·tail i) (List·Memᴰ·tail j) q = distinct-key key d y z i j q
 
 pub distinct-keys-filter : {A K : Type 0} (key : A → K) (t : A → Bool) (xs : List A) → Distinct (map key xs) → Distinct (map key (filter t xs))
@@ -34,7 +35,8 @@ module _ {A : Type 0} (t : A → Bool) where
   any-mem [] e = absurd (false≢true e)
   any-mem (x ∷ xs) e = go (t x) refl e (any-mem xs)
     where
-      go : (b : Bool) → t x ≡ b → b || any t xs ≡ true → (any t xs ≡ true → (y : A) × List·Memᴰ y xs × (t y ≡ true)) → (y : A) × List·Memᴰ y (x ∷ xs) × (t y ≡ true)
+      go : (b : Bool) → t x ≡ b → b || any t xs ≡ true → (any t xs ≡ true → (y : A) × List·Memᴰ y xs × (t y ≡ true))
+          → (y : A) × List·Memᴰ y (x ∷ xs) × (t y ≡ true)
       go true p q f = (x, List·Memᴰ·head refl, p)
       go false p q f = let r = f q in (r .0, List·Memᴰ·tail (r .1), r .2)
 

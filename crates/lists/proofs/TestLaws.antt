@@ -75,7 +75,8 @@ module _ {A : Type 0} (t : A → Bool) where
   filter-append [] ys = refl
   filter-append (x ∷ xs) ys = go (t x) (filter-append xs ys)
     where
-      go : (b : Bool) → filter t (xs ++ ys) ≡ filter t xs ++ filter t ys → cond b (x ∷ filter t (xs ++ ys)) (filter t (xs ++ ys)) ≡ cond b (x ∷ filter t xs) (filter t xs) ++ filter t ys
+      go : (b : Bool) → filter t (xs ++ ys) ≡ filter t xs ++ filter t ys
+          → cond b (x ∷ filter t (xs ++ ys)) (filter t (xs ++ ys)) ≡ cond b (x ∷ filter t xs) (filter t xs) ++ filter t ys
       go true e = ap (λ (l : List A). x ∷ l) e
       go false e = e
 
@@ -96,7 +97,8 @@ module _ {A : Type 0} (t : A → Bool) where
       further : List·Memᴰ x ys × (t x ≡ true) → List·Memᴰ x (y ∷ ys) × (t x ≡ true)
       further r = (List·Memᴰ·tail (r .0), r .1)
 
-      go : (b : Bool) → t y ≡ b → List·Memᴰ x (cond b (y ∷ filter t ys) (filter t ys)) → (List·Memᴰ x (filter t ys) → List·Memᴰ x ys × (t x ≡ true)) → List·Memᴰ x (y ∷ ys) × (t x ≡ true)
+      go : (b : Bool) → t y ≡ b → List·Memᴰ x (cond b (y ∷ filter t ys) (filter t ys)) → (List·Memᴰ x (filter t ys) → List·Memᴰ x ys × (t x ≡ true))
+          → List·Memᴰ x (y ∷ ys) × (t x ≡ true)
       go true e (List·Memᴰ·head q) f = (List·Memᴰ·head q, ap t q ∙ e)
       go true e (List·Memᴰ·tail i) f = further (f i)
       go false e i f = further (f i)

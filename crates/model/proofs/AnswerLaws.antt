@@ -16,7 +16,8 @@ use Rattle.model.specs.declared.Kind.{Kind}
 use Rattle.model.specs.declared.Kind.the-variants as kind
 use Rattle.model.specs.declared.Grant.{Grant}
 use Rattle.model.specs.declared.Fault.{Fault}
-use Rattle.model.specs.declared.Fault.the-variants.{BadPool, Reversed, ZeroNumber, UnknownKind, AlreadyLive, Full, NotLive, ListTooShort, BrokenLinks, BadLength, BadLayout, BadChecksum, BadRecord, BufferTooShort}
+use Rattle.model.specs.declared.Fault.the-variants.{BadPool, Reversed, ZeroNumber, UnknownKind, AlreadyLive, Full, NotLive, ListTooShort}
+use Rattle.model.specs.declared.Fault.the-variants.{BrokenLinks, BadLength, BadLayout, BadChecksum, BadRecord, BufferTooShort}
 use Rattle.model.specs.declared.Outcome.{Outcome}
 use Rattle.model.specs.declared.Outcome.the-variants as outcome
 use Rattle.model.specs.declared.Listed.{Listed}
@@ -31,7 +32,8 @@ use Rattle.model.specs.declared.Matched.{Matched}
 use Rattle.model.specs.declared.Matched.the-variants as matched
 use Rattle.model.specs.Kind.{kindNumber, kindOf}
 use Rattle.model.specs.Grant.{grantValues}
-use Rattle.model.specs.Answer.{Answer, accepted, refused, refusal, outcomeAnswer, listedAnswer, decisionAnswer, countedAnswer, writtenAnswer, matchedAnswer}
+use Rattle.model.specs.Answer.{Answer, accepted, refused, refusal, outcomeAnswer, listedAnswer, decisionAnswer, countedAnswer, writtenAnswer}
+use Rattle.model.specs.Answer.{matchedAnswer}
 
 -- what reads back is one-to-one
 injective-by : {A B : Type 0} (f : A → B) (g : B → A) → ((a : A) → g (f a) ≡ a) → (a b : A) → f a ≡ f b → a ≡ b

@@ -29,7 +29,8 @@ use Rattle.model.proofs.RefusalLaws.{accepted-done}
 use Rattle.model.proofs.Simulation.{Agrees, refusing-agrees}
 use Rattle.model.proofs.SoundLaws.{soundAnswer, refusing-sound}
 
-refusing-capacity : (cs : List Cause) (b : Book) (lent : List ℕ) (d : Step Book) → d .state .capacity ≡ b .capacity → refusing cs b lent d .state .capacity ≡ b .capacity
+refusing-capacity : (cs : List Cause) (b : Book) (lent : List ℕ) (d : Step Book) → d .state .capacity ≡ b .capacity
+    → refusing cs b lent d .state .capacity ≡ b .capacity
 unfolding refusing
 refusing-capacity cs b lent d e = go (firstFault cs)
   where
@@ -80,7 +81,8 @@ bookList-writes b q lent n taken =
     ap (λ (r : Step Book). take n (r .lent)) done ∙ take-at numbers _ n count
 
 module _ (b d : Book) where
-  pub bookList-same : (q : Box) (lent : List ℕ) → overlapping q (b .live) ≡ overlapping q (d .live) → responseOf (bookList b q lent) ≡ responseOf (bookList d q lent)
+  pub bookList-same : (q : Box) (lent : List ℕ) → overlapping q (b .live) ≡ overlapping q (d .live)
+      → responseOf (bookList b q lent) ≡ responseOf (bookList d q lent)
   unfolding bookList
   bookList-same q lent same =
       let agrees : Agrees (λ (x y : Book). Unit {0}) (bookList b q lent) (bookList d q lent) =

@@ -111,7 +111,8 @@ deciding-first g (h ∷ hs) x m = go (deciding-first (winner g h) hs) m
   where
     go : {d : Grant} → ((y : Grant) → List·Memᴰ y (winner g h ∷ hs) → Yields y d) → List·Memᴰ x (g ∷ h ∷ hs) → Yields x d
     go {d} f (List·Memᴰ·head e) = subst (λ (y : Grant). Yields y d) (sym e) (yields-trans (winner-first g h .0) (f (winner g h) (List·Memᴰ·head refl)))
-    go {d} f (List·Memᴰ·tail (List·Memᴰ·head e)) = subst (λ (y : Grant). Yields y d) (sym e) (yields-trans (winner-first g h .1) (f (winner g h) (List·Memᴰ·head refl)))
+    go {d} f (List·Memᴰ·tail (List·Memᴰ·head e)) =
+        subst (λ (y : Grant). Yields y d) (sym e) (yields-trans (winner-first g h .1) (f (winner g h) (List·Memᴰ·head refl)))
     go f (List·Memᴰ·tail (List·Memᴰ·tail i)) = f x (List·Memᴰ·tail i)
 
 pub decideAmong-perm : {gs hs : List Grant} → Perm gs hs → Distinct (map (λ g. g .number) gs) → decideAmong gs ≡ decideAmong hs

@@ -3,7 +3,8 @@
 use Prim.Native.Nat.{ℕ}
 use mathlib.Core.List.{List, [], _∷_}
 use Rattle.model.specs.declared.Fault.{Fault}
-use Rattle.model.specs.declared.Fault.the-variants.{BadPool, Reversed, ZeroNumber, UnknownKind, AlreadyLive, Full, NotLive, ListTooShort, BrokenLinks, BadLength, BadLayout, BadChecksum, BadRecord, BufferTooShort}
+use Rattle.model.specs.declared.Fault.the-variants.{BadPool, Reversed, ZeroNumber, UnknownKind, AlreadyLive, Full, NotLive, ListTooShort}
+use Rattle.model.specs.declared.Fault.the-variants.{BrokenLinks, BadLength, BadLayout, BadChecksum, BadRecord, BufferTooShort}
 
 abbrev pub faultNumber : Fault → ℕ
 faultNumber BadPool = 1

@@ -55,7 +55,8 @@ mem-countFrom k (suc n) j a b = go (ℕ-discrete j k) (mem-countFrom (suc k) n j
     go (no e) rest = List·Memᴰ·tail (rest (omega arith) (omega arith))
 
 staff-mem : (g : Grant) (s : ℕ) → HasStaff g s → List·Memᴰ s (staffNumbers g)
-staff-mem g s h = mem-countFrom (g .bounds .«staff_from») (g .bounds .«staff_to» + 1 - g .bounds .«staff_from») s (h .starts) (omega (arith, h .starts, h .ends))
+staff-mem g s h =
+    mem-countFrom (g .bounds .«staff_from») (g .bounds .«staff_to» + 1 - g .bounds .«staff_from») s (h .starts) (omega (arith, h .starts, h .ends))
 
 mem-staff : (g : Grant) (s : ℕ) → List·Memᴰ s (staffNumbers g) → HasStaff g s
 mem-staff g s m =
@@ -68,7 +69,8 @@ unfolding every
 every-fails t [] e = absurd (true≢false e)
 every-fails {A} t (x ∷ xs) e = go (t x) refl e (every-fails t xs)
   where
-    go : (b : Bool) → t x ≡ b → b && every t xs ≡ false → (every t xs ≡ false → (y : A) × List·Memᴰ y xs × (t y ≡ false)) → (y : A) × List·Memᴰ y (x ∷ xs) × (t y ≡ false)
+    go : (b : Bool) → t x ≡ b → b && every t xs ≡ false → (every t xs ≡ false → (y : A) × List·Memᴰ y xs × (t y ≡ false))
+        → (y : A) × List·Memᴰ y (x ∷ xs) × (t y ≡ false)
     go true p q rest = let r = rest q in (r .0, List·Memᴰ·tail (r .1), r .2)
     go false p q rest = (x, List·Memᴰ·head refl, p)
 

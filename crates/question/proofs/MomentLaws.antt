@@ -112,7 +112,8 @@ timed base to h m q e = by-test (leb h 23 && leb m 59) refl e
 pub quarter-moment : (base : Date) (bs : List ℕ) (q : ℕ) → quarterOf base bs ≡ quarter.Is q → IsMoment base q bs
 unfolding quarterOf
 quarter-moment base bs q e =
-    go (isDate (base .year) (base .month) (base .day) && momentForm bs) refl (dayIn (part 0 10 bs)) refl (typedNumber (part 11 2 bs)) refl (typedNumber (part 14 2 bs)) refl e
+    go (isDate (base .year) (base .month) (base .day) && momentForm bs) refl (dayIn (part 0 10 bs)) refl (typedNumber (part 11 2 bs)) refl
+    (typedNumber (part 14 2 bs)) refl e
   where
     go : (t : Bool) → (isDate (base .year) (base .month) (base .day) && momentForm bs) ≡ t → (o : Day) → dayIn (part 0 10 bs) ≡ o
         → (h : Number) → typedNumber (part 11 2 bs) ≡ h → (m : Number) → typedNumber (part 14 2 bs) ≡ m

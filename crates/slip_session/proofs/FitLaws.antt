@@ -18,7 +18,8 @@ use Rattle.slip_session.specs.declared.Slip.the-variants as slip
 use Rattle.text.specs.declared.Width.the-variants.{Word}
 use Rattle.text.specs.Width.{valuesOf}
 use Rattle.text.specs.Fields.{fields}
-use Rattle.slip_session.specs.Slip.{grantWidths, revokeWidths, boxWidths, decideWidths, boxAt, grantOf, revokeOf, listOf, decideOf, countOf, slipBy, letterSlip, fieldsSlip, parseLine}
+use Rattle.slip_session.specs.Slip.{grantWidths, revokeWidths, boxWidths, decideWidths, boxAt, grantOf, revokeOf, listOf, decideOf, countOf}
+use Rattle.slip_session.specs.Slip.{slipBy, letterSlip, fieldsSlip, parseLine}
 use Rattle.text.specs.Numbers.{numbers}
 use Rattle.slip_session.proofs.SlipLaws.{numbers-fit}
 use Rattle.slip_session.specs.Longest.{longest, slipOf}

@@ -49,7 +49,8 @@ pub const LONGEST: usize = 4096;
 
 // Makes the call that the line stands for, and prints its answer: how many bytes of `out` it takes.
 pub fn answer(pool: &mut [u16], lent: &mut [u16], line: &[u8], out: &mut [u8; LINE_BYTES]) -> usize
-    ensures { λ r. ⌜ Prints (now (pool .exit)) (now (lent .exit)) (take r (now (out .exit))) (lineStep wordsStep (now (pool .entry)) (now (lent .entry)) (now (line .entry))) ⌝ }
+    ensures { λ r. ⌜ Prints (now (pool .exit)) (now (lent .exit)) (take r (now (out .exit)))
+        (lineStep wordsStep (now (pool .entry)) (now (lent .entry)) (now (line .entry))) ⌝ }
     ensures { λ r. ⌜ Counts r (now (out .exit)) ⌝ }
 {
     if LONGEST < line.len() {

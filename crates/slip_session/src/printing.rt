@@ -54,7 +54,8 @@ fn least(a: usize, b: usize) -> usize
 
 // How many numbers of a lent list are printed: as many as were written, within the line and the list.
 fn shown(written: usize, numbers: &[u16]) -> usize
-    ensures { λ r. ⌜ (take r (now (numbers .entry)) ≡ take written (take maxGrants (now (numbers .entry)))) × (r ≤ length (now (numbers .entry))) × (r ≤ maxGrants) ⌝ }
+    ensures { λ r. ⌜ (take r (now (numbers .entry)) ≡ take written (take maxGrants (now (numbers .entry)))) × (r ≤ length (now (numbers .entry)))
+        × (r ≤ maxGrants) ⌝ }
 {
     least(least(written, MAX_GRANTS), numbers.len())
 }

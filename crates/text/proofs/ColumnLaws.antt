@@ -24,7 +24,8 @@ blanks-snoc : (n : ℕ) → blanks (suc n) ≡ blanks n ++ (blank ∷ [])
 blanks-snoc zero = refl
 blanks-snoc (suc n) = ap (λ (l : List ℕ). blank ∷ l) (blanks-snoc n)
 
-pub blanks-more : (l m : List ℕ) (at i : ℕ) → at + i < length m → Put l at (blanks i) (at + i) m → Put l at (blanks (i + 1)) (at + (i + 1)) (set m (at + i) blank)
+pub blanks-more : (l m : List ℕ) (at i : ℕ) → at + i < length m → Put l at (blanks i) (at + i) m
+    → Put l at (blanks (i + 1)) (at + (i + 1)) (set m (at + i) blank)
 blanks-more l m at i room p = rw (add-one i, blanks-snoc i, ← add-one i, ← add-assoc at i 1) (put-then p (put-one m (at + i) blank room))
 
 pub one-digit : (n : ℕ) → n < 10 → 1 ≡ length (numeral n)

@@ -10,7 +10,8 @@ use Rattle.checksum.proofs.sum_of_rest.Statement.{statement}
 use Rattle.checksum.proofs.sum_of_rest.Tie as tie
 
 abbrev Inv-loop : tie.InvT-loop
-Inv-loop bytes start before sum₀ at₀ sum at = (at ≤ length bytes) × (sum < modulus) × (base256 sum (drop at bytes) % modulus ≡ base256 before (drop start bytes) % modulus)
+Inv-loop bytes start before sum₀ at₀ sum at =
+    (at ≤ length bytes) × (sum < modulus) × (base256 sum (drop at bytes) % modulus ≡ base256 before (drop start bytes) % modulus)
 
 abbrev μ-loop : tie.MeasureT-loop
 μ-loop bytes start before sum₀ at₀ sum at = length bytes - at

@@ -28,7 +28,8 @@ returns c =
     let time = c .before .before in
     let gap = time .before .before .before .before in
     let date = gap .before .before .before .before in
-    rw (sym (date .before .before .day-of .ensures), sym (date .before .date-after .ensures)) (put-then (date .put-date .ensures) (put-then (gap .put-byte .ensures) (time .put-time .ensures)))
+    rw (sym (date .before .before .day-of .ensures), sym (date .before .date-after .ensures))
+    (put-then (date .put-date .ensures) (put-then (gap .put-byte .ensures) (time .put-time .ensures)))
 
 pub put-moment-spec : {M : Type 1} → statement M
 put-moment-spec =

@@ -28,7 +28,8 @@ returns c =
     let minute = c .before .before in
     let colon = minute .before .before .before .before .before in
     let hour = colon .before .before .before .before in
-    rw (sym (hour .before .hour-of .ensures), sym (minute .before .minute-of .ensures)) (put-then (hour .put-two .ensures) (put-then (colon .put-byte .ensures) (minute .put-two2 .ensures)))
+    rw (sym (hour .before .hour-of .ensures), sym (minute .before .minute-of .ensures))
+    (put-then (hour .put-two .ensures) (put-then (colon .put-byte .ensures) (minute .put-two2 .ensures)))
 
 pub put-time-spec : {M : Type 1} → statement M
 put-time-spec =

@@ -8,7 +8,8 @@ use Rattle.commands.proofs.head_office.replay_lines.Statement.{statemen
 use Rattle.commands.proofs.head_office.replay_lines.Tie as tie
 
 abbrev Inv-loop : tie.InvT-loop
-Inv-loop fd path pool₀ input₀ line₀ cursor₀ number₀ pool input line cursor number = (length line ≡ length line₀) × (length input ≡ length input₀) × (length pool ≡ length pool₀)
+Inv-loop fd path pool₀ input₀ line₀ cursor₀ number₀ pool input line cursor number =
+    (length line ≡ length line₀) × (length input ≡ length input₀) × (length pool ≡ length pool₀)
 
 abbrev μ-loop : tie.MeasureT-loop
 μ-loop fd path pool₀ input₀ line₀ cursor₀ number₀ pool input line cursor number = 18446744073709551615 - number
@@ -41,10 +42,13 @@ returns : tie.Need-returns Inv-loop μ-loop
 returns c = search needs
 
 slice-reshare-prefix-is-replayed : tie.Need-slice-reshare-prefix-is-replayed Inv-loop μ-loop
-slice-reshare-prefix-is-replayed c = held-counts _ _ _ (c .before .before .before .before .before .before .before .before .next-line .ensures .safe .held) (c .before .before .got .given .1) .0
+slice-reshare-prefix-is-replayed c =
+    held-counts _ _ _ (c .before .before .before .before .before .before .before .before .next-line .ensures .safe .held) (c .before .before .got .given .1) .0
 
 slice-aggregate-is-replayed : tie.Need-slice-aggregate-is-replayed Inv-loop μ-loop
-slice-aggregate-is-replayed c = held-counts _ _ _ (c .before .before .before .before .before .before .before .before .before .next-line .ensures .safe .held) (c .before .before .before .got .given .1) .1
+slice-aggregate-is-replayed c =
+    held-counts _ _ _ (c .before .before .before .before .before .before .before .before .before .next-line .ensures .safe .held)
+    (c .before .before .before .got .given .1) .1
 
 is-replayed-requires : tie.Need-is-replayed-requires Inv-loop μ-loop
 is-replayed-requires c κs = search needs

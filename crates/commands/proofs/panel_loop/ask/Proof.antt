@@ -40,10 +40,12 @@ returns : tie.Need-returns Inv-loop μ-loop
 returns c = search needs
 
 slice-reshare-prefix-question-of : tie.Need-slice-reshare-prefix-question-of Inv-loop μ-loop
-slice-reshare-prefix-question-of c = held-counts _ _ _ (c .before .before .before .before .before .before .before .next-line .ensures .safe .held) (c .before .got .given .1) .0
+slice-reshare-prefix-question-of c =
+    held-counts _ _ _ (c .before .before .before .before .before .before .before .next-line .ensures .safe .held) (c .before .got .given .1) .0
 
 slice-aggregate-question-of : tie.Need-slice-aggregate-question-of Inv-loop μ-loop
-slice-aggregate-question-of c = held-counts _ _ _ (c .before .before .before .before .before .before .before .before .next-line .ensures .safe .held) (c .before .before .got .given .1) .1
+slice-aggregate-question-of c =
+    held-counts _ _ _ (c .before .before .before .before .before .before .before .before .next-line .ensures .safe .held) (c .before .before .got .given .1) .1
 
 question-of-requires : tie.Need-question-of-requires Inv-loop μ-loop
 question-of-requires c κs = search needs

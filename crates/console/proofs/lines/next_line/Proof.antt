@@ -38,7 +38,9 @@ same-length-6 : tie.Need-same-length-6
 same-length-6 c = search needs
 
 returns-3 : tie.Need-returns-3
-returns-3 c = pulls-taken _ _ (c .before .before .before .before .before .before .before .before .before .before .args .cursor) _ _ (search needs) (search needs) (c .before .before .before .take-line .ensures) (c .if3 .taken)
+returns-3 c =
+    pulls-taken _ _ (c .before .before .before .before .before .before .before .before .before .before .args .cursor) _ _ (search needs)
+    (search needs) (c .before .before .before .take-line .ensures) (c .if3 .taken)
 
 read-on-requires-3 : tie.Need-read-on-requires-3
 read-on-requires-3 c κs = search needs
@@ -50,7 +52,10 @@ same-length-8 : tie.Need-same-length-8
 same-length-8 c = search needs
 
 returns-4 : tie.Need-returns-4
-returns-4 c = pulls-more _ _ _ _ _ _ (c .before .before .before .before .read-on3 .ensures .0) _ _ (c .before .before .before .before .before .before .before .before .before .before .take-line .ensures) (c .before .before .before .before .before .before .before .if3 .left) (c .before .before .before .before .read-on3 .ensures .1)
+returns-4 c =
+    pulls-more _ _ _ _ _ _ (c .before .before .before .before .read-on3 .ensures .0) _ _
+    (c .before .before .before .before .before .before .before .before .before .before .take-line .ensures)
+    (c .before .before .before .before .before .before .before .if3 .left) (c .before .before .before .before .read-on3 .ensures .1)
 
 pub next-line-spec : {M : Type 1} → statement M
 next-line-spec =

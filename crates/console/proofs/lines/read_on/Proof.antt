@@ -9,7 +9,8 @@ use Rattle.console.proofs.lines.read_on.Statement.{statement}
 use Rattle.console.proofs.lines.read_on.Tie as tie
 
 abbrev Inv-loop : tie.InvT-loop
-Inv-loop fd input₀ line₀ held so-far₀ turns₀ input line so-far turns = (so-far ≤ length line) × (length line ≡ length line₀) × (length input ≡ length input₀) × (held ≤ so-far) × (take held line ≡ take held line₀)
+Inv-loop fd input₀ line₀ held so-far₀ turns₀ input line so-far turns =
+    (so-far ≤ length line) × (length line ≡ length line₀) × (length input ≡ length input₀) × (held ≤ so-far) × (take held line ≡ take held line₀)
 
 abbrev μ-loop : tie.MeasureT-loop
 μ-loop fd input₀ line₀ held so-far₀ turns₀ input line so-far turns = turns

@@ -26,7 +26,9 @@ same-length : tie.Need-same-length Inv-loop μ-loop
 same-length c = search needs
 
 returns : tie.Need-returns Inv-loop μ-loop
-returns c = let l = c .before .before .before .loop .inv in takes-newline _ _ _ _ _ (l .0 .read) _ _ _ (l .1) (l .0 .room) (c .before .before .loop-test .taken) (eq-eqb _ _ (c .if1 .taken))
+returns c =
+    let l = c .before .before .before .loop .inv in takes-newline _ _ _ _ _ (l .0 .read) _ _ _ (l .1) (l .0 .room)
+    (c .before .before .loop-test .taken) (eq-eqb _ _ (c .if1 .taken))
 
 hold-requires : tie.Need-hold-requires Inv-loop μ-loop
 hold-requires c κs = search needs

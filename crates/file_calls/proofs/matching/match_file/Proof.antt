@@ -38,7 +38,9 @@ returns-2 c =
     let judged = told .before .before in
     let some = judged .before in
     let start = some .before .before .before .before in
-    c .refused-file .ensures ∙ match-file (start .args .pool .now) (start .args .file .now) (some .before .capacity .ensures) (some .if1 .left) (judged .judge .ensures) (told .enum-told2 .given .1)
+    c .refused-file .ensures
+    ∙ match-file (start .args .pool .now) (start .args .file .now) (some .before .capacity .ensures) (some .if1 .left) (judged .judge .ensures)
+    (told .enum-told2 .given .1)
 
 first-door-requires : tie.Need-first-door-requires
 first-door-requires c κs =
@@ -76,7 +78,9 @@ returns-3 c =
     let judged = taken .before .before in
     let some = judged .before in
     let start = some .before .before .before .before in
-    match-broken (start .args .pool .now) (start .args .file .now) (some .before .capacity .ensures) (some .if1 .left) (file-taken _ (judged .judge .ensures) (taken .enum-told .given .1)) (first .first-door .ensures) (last .last-door .ensures) (ranged .range-of-doors .ensures) _ (searched .find-hits .ensures) (c .enum-told3 .given .1)
+    match-broken (start .args .pool .now) (start .args .file .now) (some .before .capacity .ensures) (some .if1 .left)
+    (file-taken _ (judged .judge .ensures) (taken .enum-told .given .1)) (first .first-door .ensures) (last .last-door .ensures)
+    (ranged .range-of-doors .ensures) _ (searched .find-hits .ensures) (c .enum-told3 .given .1)
 
 sort-cells-requires : tie.Need-sort-cells-requires
 sort-cells-requires c κs =
@@ -102,7 +106,10 @@ returns-4 c =
     let judged = taken .before .before in
     let some = judged .before in
     let start = some .before .before .before .before in
-    match-done (start .args .pool .now) (start .args .file .now) (some .before .capacity .ensures) (some .if1 .left) (file-taken _ (judged .judge .ensures) (taken .enum-told .given .1)) (first .first-door .ensures) (last .last-door .ensures) (ranged .range-of-doors .ensures) _ (searched .find-hits .ensures) (found .found .given .1) _ (sorted .sort-cells .ensures .0) (c .first-difference .ensures)
+    match-done (start .args .pool .now) (start .args .file .now) (some .before .capacity .ensures) (some .if1 .left)
+    (file-taken _ (judged .judge .ensures) (taken .enum-told .given .1)) (first .first-door .ensures) (last .last-door .ensures)
+    (ranged .range-of-doors .ensures) _ (searched .find-hits .ensures) (found .found .given .1) _ (sorted .sort-cells .ensures .0)
+    (c .first-difference .ensures)
 
 pub match-file-spec : {M : Type 1} → statement M
 match-file-spec =

@@ -48,7 +48,8 @@ returns-3 c =
     let forward = ranged .before in
     let some = forward .before in
     let start = some .before .before .before .before in
-    write-broken (start .args .pool .now) _ (start .args .bytes .now) (some .before .capacity .ensures) (some .if1 .left) (forward .if2 .left) (ranged .range-of-doors .ensures) _ (searched .find-hits .ensures) (c .enum-told .given .1)
+    write-broken (start .args .pool .now) _ (start .args .bytes .now) (some .before .capacity .ensures) (some .if1 .left) (forward .if2 .left)
+    (ranged .range-of-doors .ensures) _ (searched .find-hits .ensures) (c .enum-told .given .1)
 
 blocks-for-requires : tie.Need-blocks-for-requires
 blocks-for-requires c κs =
@@ -69,7 +70,9 @@ returns-4 c =
     let forward = ranged .before in
     let some = forward .before in
     let start = some .before .before .before .before in
-    write-short (start .args .pool .now) _ (start .args .bytes .now) (some .before .capacity .ensures) (some .if1 .left) (forward .if2 .left) (ranged .range-of-doors .ensures) _ (searched .find-hits .ensures) (found .found .given .1) (ap (λ (k : ℕ). 512 * k) (counted .blocks-for .ensures)) (c .if3 .taken)
+    write-short (start .args .pool .now) _ (start .args .bytes .now) (some .before .capacity .ensures) (some .if1 .left) (forward .if2 .left)
+    (ranged .range-of-doors .ensures) _ (searched .find-hits .ensures) (found .found .given .1)
+    (ap (λ (k : ℕ). 512 * k) (counted .blocks-for .ensures)) (c .if3 .taken)
 
 sort-cells-requires : tie.Need-sort-cells-requires
 sort-cells-requires c κs =
@@ -97,7 +100,9 @@ returns-5 c =
     let forward = ranged .before in
     let some = forward .before in
     let start = some .before .before .before .before in
-    write-done (start .args .pool .now) _ (start .args .bytes .now) (some .before .capacity .ensures) (some .if1 .left) (forward .if2 .left) (ranged .range-of-doors .ensures) _ (searched .find-hits .ensures) (found .found .given .1) (ap (λ (k : ℕ). 512 * k) (counted .blocks-for .ensures)) (room .if3 .left) _ (sorted .sort-cells .ensures .0) (wrote .write-file .ensures)
+    write-done (start .args .pool .now) _ (start .args .bytes .now) (some .before .capacity .ensures) (some .if1 .left) (forward .if2 .left)
+    (ranged .range-of-doors .ensures) _ (searched .find-hits .ensures) (found .found .given .1)
+    (ap (λ (k : ℕ). 512 * k) (counted .blocks-for .ensures)) (room .if3 .left) _ (sorted .sort-cells .ensures .0) (wrote .write-file .ensures)
 
 pub write-spec : {M : Type 1} → statement M
 write-spec =

@@ -25,7 +25,9 @@ same-length : tie.Need-same-length
 same-length c = search needs
 
 returns : tie.Need-returns
-returns c = let start = c .before .before .before .before .before .before in part-written (start .args .bytes .now) (512 * start .args .number) (blockAs (start .args .pool .now) (start .args .cells .now) (start .args .total) (start .args .number)) (c .before .before .write-first .ensures)
+returns c =
+    let start = c .before .before .before .before .before .before in part-written (start .args .bytes .now) (512 * start .args .number)
+    (blockAs (start .args .pool .now) (start .args .cells .now) (start .args .total) (start .args .number)) (c .before .before .write-first .ensures)
 
 pub write-at-spec : {M : Type 1} → statement M
 write-at-spec =

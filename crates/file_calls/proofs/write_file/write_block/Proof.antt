@@ -50,7 +50,9 @@ returns c =
     let begun = wrote .before .before .before .before in
     let counted = begun .before .before in
     let start = counted .before .before .before in
-    block-written (start .args .pool .now) (start .args .cells .now) (start .args .total) (start .args .block .now) (start .args .number) _ (start .pre .0) (start .pre .1) (start .pre .2) (start .pre .3) (counted .count-in .ensures .0) (begun .start-block .ensures) (wrote .write-records .ensures) (shut .seal .ensures)
+    block-written (start .args .pool .now) (start .args .cells .now) (start .args .total) (start .args .block .now) (start .args .number) _
+    (start .pre .0) (start .pre .1) (start .pre .2) (start .pre .3) (counted .count-in .ensures .0) (begun .start-block .ensures)
+    (wrote .write-records .ensures) (shut .seal .ensures)
 
 pub write-block-spec : {M : Type 1} → statement M
 write-block-spec =

@@ -10,7 +10,8 @@ use Rattle.file_calls.proofs.write_file.write_blocks.Statement.{stateme
 use Rattle.file_calls.proofs.write_file.write_blocks.Tie as tie
 
 abbrev Inv-loop : tie.InvT-loop
-Inv-loop pool cells total blocks bytes₀ i₀ bytes i = (0 < i) × (i ≤ blocks) × (length bytes ≡ length bytes₀) × (bytes ≡ overwrite (front pool cells total bytes₀ i) bytes₀)
+Inv-loop pool cells total blocks bytes₀ i₀ bytes i =
+    (0 < i) × (i ≤ blocks) × (length bytes ≡ length bytes₀) × (bytes ≡ overwrite (front pool cells total bytes₀ i) bytes₀)
 
 abbrev μ-loop : tie.MeasureT-loop
 μ-loop pool cells total blocks bytes₀ i₀ bytes i = blocks - i
@@ -45,7 +46,8 @@ returns : tie.Need-returns Inv-loop μ-loop
 returns c =
     let at = c .before in
     let start = at .before .before .before in
-    blocks-all (start .args .pool .now) (start .args .cells .now) (start .args .total) (start .args .bytes .now) (at .loop .i) (omega (arith, start .pre .1)) (at .loop .inv .3)
+    blocks-all (start .args .pool .now) (start .args .cells .now) (start .args .total) (start .args .bytes .now) (at .loop .i)
+    (omega (arith, start .pre .1)) (at .loop .inv .3)
 
 pub write-blocks-spec : {M : Type 1} → statement M
 write-blocks-spec =

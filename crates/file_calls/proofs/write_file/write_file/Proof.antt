@@ -26,7 +26,8 @@ returns c =
     let wrote = c .before .before in
     let begun = wrote .before .before .before .before .before in
     let start = begun .before .before .before .before in
-    file-written (start .args .pool .now) (start .args .cells .now) (start .args .total) _ (start .args .bytes .now) (start .pre .0 .room) (start .pre .0 .few) (begun .write-front .ensures) (wrote .write-blocks .ensures)
+    file-written (start .args .pool .now) (start .args .cells .now) (start .args .total) _ (start .args .bytes .now) (start .pre .0 .room)
+    (start .pre .0 .few) (begun .write-front .ensures) (wrote .write-blocks .ensures)
 
 pub write-file-spec : {M : Type 1} → statement M
 write-file-spec =

@@ -13,7 +13,8 @@ slice-aggregate-write-block : tie.Need-slice-aggregate-write-block
 slice-aggregate-write-block c = sym (length-take-le blockBytes (c .before .before .before .args .bytes .now) (c .before .before .before .pre .3))
 
 write-block-requires : tie.Need-write-block-requires
-write-block-requires c κs = let start = c .before .before .before in (start .pre .0, start .pre .1, start .pre .2, length-take-le blockBytes (start .args .bytes .now) (start .pre .3))
+write-block-requires c κs =
+    let start = c .before .before .before in (start .pre .0, start .pre .1, start .pre .2, length-take-le blockBytes (start .args .bytes .now) (start .pre .3))
 
 same-length : tie.Need-same-length
 same-length c = search needs

@@ -14,7 +14,9 @@ use Rattle.file_calls.proofs.write_file.write_records.Statement.{statem
 use Rattle.file_calls.proofs.write_file.write_records.Tie as tie
 
 abbrev Inv-loop : tie.InvT-loop
-Inv-loop pool cells first count block₀ i₀ block i = (i ≤ count) × (length block ≡ length block₀) × (length block ≡ blockBytes) × (block ≡ sets block₀ recordsPlace (flatMap encodeRecord (grantsFrom pool cells first i)))
+Inv-loop pool cells first count block₀ i₀ block i =
+    (i ≤ count) × (length block ≡ length block₀) × (length block ≡ blockBytes)
+    × (block ≡ sets block₀ recordsPlace (flatMap encodeRecord (grantsFrom pool cells first i)))
 
 abbrev μ-loop : tie.MeasureT-loop
 μ-loop pool cells first count block₀ i₀ block i = count - i

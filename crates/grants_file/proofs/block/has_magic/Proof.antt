@@ -30,7 +30,9 @@ array-read-if3 : tie.Need-array-read-if3
 array-read-if3 c = search needs
 
 returns-3 : tie.Need-returns-3
-returns-3 c = magic-third (c .before .before .before .before .before .before .args .block .now) (omega arith) (c .before .before .before .before .if1 .left) (c .before .before .if2 .left) (c .if3 .taken)
+returns-3 c =
+    magic-third (c .before .before .before .before .before .before .args .block .now) (omega arith) (c .before .before .before .before .if1 .left)
+    (c .before .before .if2 .left) (c .if3 .taken)
 
 shared-slice-read-result : tie.Need-shared-slice-read-result
 shared-slice-read-result c = search needs
@@ -39,7 +41,9 @@ array-read-result : tie.Need-array-read-result
 array-read-result c = search needs
 
 returns-4 : tie.Need-returns-4
-returns-4 c = magic-fourth (c .before .before .before .before .before .before .before .args .block .now) (omega arith) (c .before .before .before .before .before .if1 .left) (c .before .before .before .if2 .left) (c .before .if3 .left)
+returns-4 c =
+    magic-fourth (c .before .before .before .before .before .before .before .args .block .now) (omega arith)
+    (c .before .before .before .before .before .if1 .left) (c .before .before .before .if2 .left) (c .before .if3 .left)
 
 pub has-magic-spec : {M : Type 1} → statement M
 has-magic-spec =

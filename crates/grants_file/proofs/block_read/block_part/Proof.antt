@@ -36,14 +36,17 @@ part-result-end-2 : tie.Need-part-result-end-2
 part-result-end-2 c = search needs
 
 returns-2 : tie.Need-returns-2
-returns-2 c = part-header _ _ (rw (c .before .before .enum-told .given .1) at (c .before .before .before .before .block-verdict .ensures)) (c .before .if1 .taken)
+returns-2 c =
+    part-header _ _ (rw (c .before .before .enum-told .given .1) at (c .before .before .before .before .block-verdict .ensures)) (c .before .if1 .taken)
 
 records-part-requires : tie.Need-records-part-requires
 records-part-requires c κs = let done = rw (c .before .enum-told .given .1) at (c .before .before .before .block-verdict .ensures) in
     (done-in _ _ done, done-count _ _ done (c .if1 .left))
 
 returns-3 : tie.Need-returns-3
-returns-3 c = c .records-part .ensures ∙ part-records _ _ (rw (c .before .before .enum-told .given .1) at (c .before .before .before .before .block-verdict .ensures)) (c .before .if1 .left)
+returns-3 c =
+    c .records-part .ensures
+    ∙ part-records _ _ (rw (c .before .before .enum-told .given .1) at (c .before .before .before .before .block-verdict .ensures)) (c .before .if1 .left)
 
 pub block-part-spec : {M : Type 1} → statement M
 block-part-spec =

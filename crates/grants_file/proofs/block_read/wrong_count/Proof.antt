@@ -19,7 +19,9 @@ blocks-in-requires : tie.Need-blocks-in-requires
 blocks-in-requires c κs = search needs
 
 returns : tie.Need-returns
-returns c = rw (c .before .before .count-of .ensures .0, c .before .before .before .block-at .ensures .0) (count-inner _ _ (rw (← c .before .blocks-in .ensures) (c .if1 .taken)))
+returns c =
+    rw (c .before .before .count-of .ensures .0, c .before .before .before .block-at .ensures .0)
+    (count-inner _ _ (rw (← c .before .blocks-in .ensures) (c .if1 .taken)))
 
 returns-2 : tie.Need-returns-2
 returns-2 c =

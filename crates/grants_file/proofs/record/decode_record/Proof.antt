@@ -27,7 +27,9 @@ bounds-at-requires : tie.Need-bounds-at-requires
 bounds-at-requires c κs = search needs
 
 returns : tie.Need-returns
-returns c = rw (c .before .before .before .before .be16-at .ensures, c .before .kind-of .ensures, c .bounds-at .ensures) (sym (decode-at (c .before .before .before .before .before .before .args .bytes .now) (c .before .before .before .before .before .before .args .at)))
+returns c =
+    rw (c .before .before .before .before .be16-at .ensures, c .before .kind-of .ensures, c .bounds-at .ensures)
+    (sym (decode-at (c .before .before .before .before .before .before .args .bytes .now) (c .before .before .before .before .before .before .args .at)))
 
 pub decode-record-spec : {M : Type 1} → statement M
 decode-record-spec =

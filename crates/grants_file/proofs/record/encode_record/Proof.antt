@@ -11,7 +11,9 @@ use Rattle.grants_file.proofs.record.encode_record.Statement.{statement
 use Rattle.grants_file.proofs.record.encode_record.Tie as tie
 
 abbrev Inv-loop : tie.InvT-loop
-Inv-loop bytes₀ at source i₀ bytes i = (i ≤ recordBytes) × (at + recordBytes ≤ length bytes) × (length bytes ≡ length bytes₀) × (length source ≡ recordBytes) × (bytes ≡ sets bytes₀ at (take i source))
+Inv-loop bytes₀ at source i₀ bytes i =
+    (i ≤ recordBytes) × (at + recordBytes ≤ length bytes) × (length bytes ≡ length bytes₀) × (length source ≡ recordBytes)
+    × (bytes ≡ sets bytes₀ at (take i source))
 
 abbrev μ-loop : tie.MeasureT-loop
 μ-loop bytes₀ at source i₀ bytes i = recordBytes - i

@@ -45,7 +45,8 @@ returns-3 c =
     let kind = told .before .before in
     let above = kind .before .before in
     let read = above .before .before in
-    record-reversed _ _ _ _ (read .before .before .args .block .now) _ (read .decode-record .ensures) (above .if1 .left) (kind .if2 .left) (sym (c .if3 .taken) ∙ told .is-reversed .ensures)
+    record-reversed _ _ _ _ (read .before .before .args .block .now) _ (read .decode-record .ensures) (above .if1 .left) (kind .if2 .left)
+    (sym (c .if3 .taken) ∙ told .is-reversed .ensures)
 
 overlap-on-requires : tie.Need-overlap-on-requires
 overlap-on-requires c κs = search needs
@@ -57,7 +58,8 @@ returns-4 c =
     let kind = told .before .before in
     let above = kind .before .before in
     let read = above .before .before in
-    record-sound _ _ _ _ (read .before .before .args .block .now) _ (read .decode-record .ensures) (above .if1 .left) (kind .if2 .left) (sym (touch .before .if3 .left) ∙ told .is-reversed .ensures) (sym (c .if4 .taken) ∙ touch .overlap-on .ensures)
+    record-sound _ _ _ _ (read .before .before .args .block .now) _ (read .decode-record .ensures) (above .if1 .left) (kind .if2 .left)
+    (sym (touch .before .if3 .left) ∙ told .is-reversed .ensures) (sym (c .if4 .taken) ∙ touch .overlap-on .ensures)
 
 returns-5 : tie.Need-returns-5
 returns-5 c =
@@ -66,7 +68,8 @@ returns-5 c =
     let kind = told .before .before in
     let above = kind .before .before in
     let read = above .before .before in
-    record-doors _ _ _ _ (read .before .before .args .block .now) _ (read .decode-record .ensures) (above .if1 .left) (kind .if2 .left) (sym (touch .before .if3 .left) ∙ told .is-reversed .ensures) (sym (c .if4 .left) ∙ touch .overlap-on .ensures)
+    record-doors _ _ _ _ (read .before .before .args .block .now) _ (read .decode-record .ensures) (above .if1 .left) (kind .if2 .left)
+    (sym (touch .before .if3 .left) ∙ told .is-reversed .ensures) (sym (c .if4 .left) ∙ touch .overlap-on .ensures)
 
 pub record-defect-spec : {M : Type 1} → statement M
 record-defect-spec =

@@ -11,7 +11,8 @@ use Rattle.grants_file.proofs.write_block.clear_padding.Statement.{stat
 use Rattle.grants_file.proofs.write_block.clear_padding.Tie as tie
 
 abbrev Inv-loop : tie.InvT-loop
-Inv-loop block₀ start at₀ block at = (start ≤ at) × (at ≤ checksumPlace) × (length block ≡ blockBytes) × (length block ≡ length block₀) × (block ≡ sets block₀ start (replicate (at - start) 0))
+Inv-loop block₀ start at₀ block at =
+    (start ≤ at) × (at ≤ checksumPlace) × (length block ≡ blockBytes) × (length block ≡ length block₀) × (block ≡ sets block₀ start (replicate (at - start) 0))
 
 abbrev μ-loop : tie.MeasureT-loop
 μ-loop block₀ start at₀ block at = checksumPlace - at

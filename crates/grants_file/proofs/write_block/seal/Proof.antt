@@ -30,7 +30,8 @@ returns c =
     let summed = c .before .before .before .before in
     let cleared = summed .before .before .before .before .before in
     let start = cleared .before .before .before in
-    seal-block (start .args .block .now) (start .args .start) (start .pre .0) (start .pre .1) (cleared .clear-padding .ensures) (summed .checksum .ensures) (c .before .before .put-be16 .ensures)
+    seal-block (start .args .block .now) (start .args .start) (start .pre .0) (start .pre .1) (cleared .clear-padding .ensures)
+    (summed .checksum .ensures) (c .before .before .put-be16 .ensures)
 
 pub seal-spec : {M : Type 1} → statement M
 seal-spec =

@@ -22,7 +22,8 @@ returns c =
     let numbered = counted .before .before .before .before in
     let marked = numbered .before .before .before .before in
     let start = marked .before .before .before in
-    block-started (start .args .block .now) (start .args .number) (start .args .count) (marked .put-magic .ensures) (numbered .put-be16 .ensures) (counted .put-be162 .ensures)
+    block-started (start .args .block .now) (start .args .number) (start .args .count) (marked .put-magic .ensures) (numbered .put-be16 .ensures)
+    (counted .put-be162 .ensures)
 
 pub start-block-spec : {M : Type 1} → statement M
 start-block-spec =

@@ -26,7 +26,8 @@ returns c =
     let from = to .before .before .before .before in
     let started = from .before .before .before .before in
     let start = started .before .before .before in
-    header-block (start .args .block .now) (start .args .total) (record { from = start .args .from; to = start .args .to }) (start .pre) (started .start-block .ensures) (from .put-be16 .ensures) (to .put-be162 .ensures) (sealed .seal .ensures)
+    header-block (start .args .block .now) (start .args .total) (record { from = start .args .from; to = start .args .to }) (start .pre)
+    (started .start-block .ensures) (from .put-be16 .ensures) (to .put-be162 .ensures) (sealed .seal .ensures)
 
 pub write-header-spec : {M : Type 1} → statement M
 write-header-spec =

@@ -13,7 +13,8 @@ placed-requires c κs = search needs
 returns : tie.Need-returns
 returns c =
     let start = c .before .before .before .before .before in
-    placed-sorted (start .args .pool .now) (start .args .hits .now) _ (start .args .found) (start .args .i) (c .before .before .sort-cells .ensures .0) (c .placed .ensures)
+    placed-sorted (start .args .pool .now) (start .args .hits .now) _ (start .args .found) (start .args .i)
+    (c .before .before .sort-cells .ensures .0) (c .placed .ensures)
 
 pub sorted-placed-spec : {M : Type 1} → statement M
 sorted-placed-spec = tie.close (tie.spec sort-cells-requires placed-requires returns)

@@ -42,7 +42,8 @@ returns-2 c =
     let ranged = searched .before .before .before in
     let tested = ranged .before .before in
     let start = tested .before .before .before in
-    touching-broken (start .args .pool .now) (start .args .door) (start .args .quarter) (start .args .i) (tested .before .capacity .ensures) (tested .if1 .left) (ranged .before .door-box .ensures) (ranged .range-of-box .ensures) _ (searched .find-hits .ensures) (c .enum-told .given .1)
+    touching-broken (start .args .pool .now) (start .args .door) (start .args .quarter) (start .args .i) (tested .before .capacity .ensures)
+    (tested .if1 .left) (ranged .before .door-box .ensures) (ranged .range-of-box .ensures) _ (searched .find-hits .ensures) (c .enum-told .given .1)
 
 sorted-placed-requires : tie.Need-sorted-placed-requires
 sorted-placed-requires c κs =
@@ -56,7 +57,9 @@ returns-3 c =
     let ranged = searched .before .before .before in
     let tested = ranged .before .before in
     let start = tested .before .before .before in
-    touching-done (start .args .pool .now) (start .args .door) (start .args .quarter) (start .args .i) (tested .before .capacity .ensures) (tested .if1 .left) (ranged .before .door-box .ensures) (ranged .range-of-box .ensures) _ (searched .find-hits .ensures) (found .found .given .1) (c .sorted-placed .ensures)
+    touching-done (start .args .pool .now) (start .args .door) (start .args .quarter) (start .args .i) (tested .before .capacity .ensures)
+    (tested .if1 .left) (ranged .before .door-box .ensures) (ranged .range-of-box .ensures) _ (searched .find-hits .ensures) (found .found .given .1)
+    (c .sorted-placed .ensures)
 
 pub touching-at-spec : {M : Type 1} → statement M
 touching-at-spec =

@@ -40,7 +40,8 @@ returns : tie.Need-returns Inv-loop μ-loop
 returns c =
     let found = c .before .before in
     let turn = found .before .before .before in
-    any-found _ _ (turn .before .before .before .pre) (turn .loop-test .taken) (found .before .wide .ensures .0) (found .grant-at .ensures) (overridesSome (turn .before .before .before .args .g)) (turn .before .loop .inv .1) (sym (c .before .overrides-some .ensures) ∙ c .if1 .taken)
+    any-found _ _ (turn .before .before .before .pre) (turn .loop-test .taken) (found .before .wide .ensures .0) (found .grant-at .ensures)
+    (overridesSome (turn .before .before .before .args .g)) (turn .before .loop .inv .1) (sym (c .before .overrides-some .ensures) ∙ c .if1 .taken)
 
 add-i : tie.Need-add-i Inv-loop μ-loop
 add-i c = search needs

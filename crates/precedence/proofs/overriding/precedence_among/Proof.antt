@@ -22,7 +22,8 @@ overridden-some-requires c κs = search needs
 returns : tie.Need-returns Inv-loop μ-loop
 returns c =
     let start = c .before .before .before in
-    walk-whole (grantsFrom (start .args .pool .now) (start .args .hits .now) (start .args .found) 0) (start .args .g) (sym (c .before .overridden-some .ensures) ∙ not-true _ (c .if1 .taken))
+    walk-whole (grantsFrom (start .args .pool .now) (start .args .hits .now) (start .args .found) 0) (start .args .g)
+    (sym (c .before .overridden-some .ensures) ∙ not-true _ (c .if1 .taken))
 
 wide-requires : tie.Need-wide-requires Inv-loop μ-loop
 wide-requires c κs = search needs
@@ -44,7 +45,9 @@ returns-2 c =
     let to = turn .before .before .before in
     let overridden = to .before .before in
     let start = overridden .before .before in
-    walk-partly (grantsFrom (start .args .pool .now) (start .args .hits .now) (start .args .found) 0) (start .args .g) (sym (overridden .overridden-some .ensures) ∙ not-false _ (to .before .if1 .left)) (turn .before .loop .staff) (c .before .reach .result) (turn .before .loop .inv .0) (omega (arith, turn .loop-test .taken, to .wide .ensures .0)) (c .before .reach .ensures) (c .if2 .taken)
+    walk-partly (grantsFrom (start .args .pool .now) (start .args .hits .now) (start .args .found) 0) (start .args .g)
+    (sym (overridden .overridden-some .ensures) ∙ not-false _ (to .before .if1 .left)) (turn .before .loop .staff) (c .before .reach .result)
+    (turn .before .loop .inv .0) (omega (arith, turn .loop-test .taken, to .wide .ensures .0)) (c .before .reach .ensures) (c .if2 .taken)
 
 loop-less : tie.Need-loop-less Inv-loop μ-loop
 loop-less c = search needs
@@ -61,7 +64,9 @@ returns-3 c =
     let to = c .before .before .before in
     let overridden = to .before .before in
     let start = overridden .before .before in
-    walk-nowhere (grantsFrom (start .args .pool .now) (start .args .hits .now) (start .args .found) 0) (start .args .g) (sym (overridden .overridden-some .ensures) ∙ not-false _ (to .before .if1 .left)) (c .before .loop .staff) (c .before .loop .inv .1) (omega (arith, c .loop-test .left, to .wide .ensures .0))
+    walk-nowhere (grantsFrom (start .args .pool .now) (start .args .hits .now) (start .args .found) 0) (start .args .g)
+    (sym (overridden .overridden-some .ensures) ∙ not-false _ (to .before .if1 .left)) (c .before .loop .staff) (c .before .loop .inv .1)
+    (omega (arith, c .loop-test .left, to .wide .ensures .0))
 
 pub precedence-among-spec : {M : Type 1} → statement M
 precedence-among-spec =

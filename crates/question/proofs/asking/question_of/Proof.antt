@@ -85,7 +85,8 @@ returns-5 c =
     let form = day .before .before .before in
     let t = sym (form .before .is-timed .ensures) ∙ not-false _ (form .if2 .left) in
     let q = rw (is-ending _ (timed-length _ t)) at (quarter .before .before .before .quarter-of .ensures) in
-    c .timed-question .ensures ∙ line-timed _ (form .before .before .if1 .left) t _ _ (day .before .base .given .1) _ (sym q ∙ quarter .before .quarter .given .1)
+    c .timed-question .ensures
+    ∙ line-timed _ (form .before .before .if1 .left) t _ _ (day .before .base .given .1) _ (sym q ∙ quarter .before .quarter .given .1)
 
 pub question-of-spec : {M : Type 1} → statement M
 question-of-spec =

@@ -1,4 +1,5 @@
--- `quarters::days_since` meets its contract. The invariant: the date is the day so many days after the base day, and the days from there on are the days since the base day.
+-- `quarters::days_since` meets its contract. The invariant: the date is the day so many days after the base day, and the days from there on are the
+-- days since the base day.
 -- The measure is how many days are left. Assumes nothing.
 use borrow.Author.Needs.{needs}
 use Prim.Native.Nat.{_+_, _-_, _<_, _≤_}

@@ -4,7 +4,8 @@ use borrow.Author.Tests.{not-true, not-false}
 use native.Mathlib.Omega.{arith}
 use mathlib.Core.Path.{sym, _∙_}
 use Rattle.calendar.proofs.CalendarLaws.{isDate-iff}
-use Rattle.question.proofs.QuarterLaws.{moment-form-length, quarter-no-base, quarter-no-form, quarter-no-day, quarter-no-hour, quarter-no-minute, quarter-read}
+use Rattle.question.proofs.QuarterLaws.{moment-form-length, quarter-no-base, quarter-no-form, quarter-no-day, quarter-no-hour}
+use Rattle.question.proofs.QuarterLaws.{quarter-no-minute, quarter-read}
 use Rattle.question.proofs.quarters.quarter_of.Statement.{statement}
 use Rattle.question.proofs.quarters.quarter_of.Tie as tie
 

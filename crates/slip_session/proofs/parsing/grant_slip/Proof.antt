@@ -40,7 +40,8 @@ box-at-requires c κs = search needs
 returns-2 : tie.Need-returns-2
 returns-2 c =
     let n = c .before .before .before .before .read-numbers in
-    rw (c .box-at .ensures) (sym (grant-taken (n .result .values)) ∙ slip-good grantOf (n .result) 9 _ (n .ensures) (not-false _ (c .before .before .if1 .left)))
+    rw (c .box-at .ensures)
+    (sym (grant-taken (n .result .values)) ∙ slip-good grantOf (n .result) 9 _ (n .ensures) (not-false _ (c .before .before .if1 .left)))
 
 pub grant-slip-spec : {M : Type 1} → statement M
 grant-slip-spec =

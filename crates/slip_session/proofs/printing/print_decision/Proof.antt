@@ -51,7 +51,8 @@ returns-2 : tie.Need-returns-2
 returns-2 c = rw (c .before .before .before .before .before .d2 .given .1) (c .print-numbered2 .ensures)
 
 returns-3 : tie.Need-returns-3
-returns-3 c = rw (c .before .before .before .enum-told .given .1) (put-line (c .put-text .ensures) (omega (arith, c .put-text .ensures .ends, c .put-text .kept .0)))
+returns-3 c =
+    rw (c .before .before .before .enum-told .given .1) (put-line (c .put-text .ensures) (omega (arith, c .put-text .ensures .ends, c .put-text .kept .0)))
 
 returns-4 : tie.Need-returns-4
 returns-4 c = rw (c .before .before .before .d3 .given .1) (c .print-refusal .ensures)

@@ -21,7 +21,8 @@ print-refusal-requires : tie.Need-print-refusal-requires
 print-refusal-requires c κs = search needs
 
 returns : tie.Need-returns
-returns c = rw (c .before .before .before .enum-told .given .1) (put-line (c .put-text .ensures) (omega (arith, c .put-text .ensures .ends, c .put-text .kept .0)))
+returns c =
+    rw (c .before .before .before .enum-told .given .1) (put-line (c .put-text .ensures) (omega (arith, c .put-text .ensures .ends, c .put-text .kept .0)))
 
 returns-2 : tie.Need-returns-2
 returns-2 c = rw (c .before .before .before .o .given .1) (c .print-refusal .ensures)

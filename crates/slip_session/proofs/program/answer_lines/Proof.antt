@@ -7,7 +7,8 @@ use Rattle.slip_session.proofs.program.answer_lines.Statement.{statemen
 use Rattle.slip_session.proofs.program.answer_lines.Tie as tie
 
 abbrev Inv-loop : tie.InvT-loop
-Inv-loop pool₀ lent₀ input₀ line₀ cursor₀ turns₀ pool lent input line cursor turns = (length line ≡ length line₀) × (length input ≡ length input₀) × (length pool ≡ length pool₀) × (length lent ≡ length lent₀)
+Inv-loop pool₀ lent₀ input₀ line₀ cursor₀ turns₀ pool lent input line cursor turns =
+    (length line ≡ length line₀) × (length input ≡ length input₀) × (length pool ≡ length pool₀) × (length lent ≡ length lent₀)
 
 abbrev μ-loop : tie.MeasureT-loop
 μ-loop pool₀ lent₀ input₀ line₀ cursor₀ turns₀ pool lent input line cursor turns = turns
@@ -40,10 +41,14 @@ returns : tie.Need-returns Inv-loop μ-loop
 returns c = search needs
 
 slice-reshare-prefix-answer-line : tie.Need-slice-reshare-prefix-answer-line Inv-loop μ-loop
-slice-reshare-prefix-answer-line c = held-counts _ _ _ (c .before .before .before .before .before .before .before .before .before .next-line .ensures .safe .held) (c .before .before .before .got .given .1) .0
+slice-reshare-prefix-answer-line c =
+    held-counts _ _ _ (c .before .before .before .before .before .before .before .before .before .next-line .ensures .safe .held)
+    (c .before .before .before .got .given .1) .0
 
 slice-aggregate-answer-line : tie.Need-slice-aggregate-answer-line Inv-loop μ-loop
-slice-aggregate-answer-line c = held-counts _ _ _ (c .before .before .before .before .before .before .before .before .before .before .next-line .ensures .safe .held) (c .before .before .before .before .got .given .1) .1
+slice-aggregate-answer-line c =
+    held-counts _ _ _ (c .before .before .before .before .before .before .before .before .before .before .next-line .ensures .safe .held)
+    (c .before .before .before .before .got .given .1) .1
 
 answer-line-requires : tie.Need-answer-line-requires Inv-loop μ-loop
 answer-line-requires c κs = search needs

@@ -32,7 +32,8 @@ returns c =
     let number = c .before .before in
     let blanks = number .before .before .before .before in
     let digits = blanks .before .digits-of in
-    put-aligned-whole (blanks .before .before .before .before .args .n) (digits .result) (digits .ensures .0) (digits .ensures .1) (blanks .put-blanks .ensures) (number .put-number .ensures)
+    put-aligned-whole (blanks .before .before .before .before .args .n) (digits .result) (digits .ensures .0) (digits .ensures .1)
+    (blanks .put-blanks .ensures) (number .put-number .ensures)
 
 pub put-aligned-spec : {M : Type 1} → statement M
 put-aligned-spec =

@@ -64,7 +64,9 @@ put-number-returns : (t : ℕ) → put-number-lts.Need-returns (
   put-number-below t,
   put-number.Post,
 ) (put-number-at t) put-number.Post
-put-number-returns t c = rw (numeral-digit (c .before .before .before .before .before .before .args .n) (c .before .before .before .before .if1 .taken)) (c .before .before .put-byte .ensures)
+put-number-returns t c =
+    rw (numeral-digit (c .before .before .before .before .before .before .args .n) (c .before .before .before .before .if1 .taken))
+    (c .before .before .put-byte .ensures)
 
 put-number-put-number-requires : (t : ℕ) → put-number-lts.Need-put-number-requires (
   put-byte-reads.Asked,
@@ -120,7 +122,8 @@ put-number-returns-2 : (t : ℕ) → put-number-lts.Need-returns-2 (
 put-number-returns-2 t c =
     let a = c .before .before .before .before .before .before .before .before .before .before in
     let p = c .before .before .before .before .before .before .put-number .ensures in
-    rw (numeral-more (a .args .n) (c .before .before .before .before .before .before .before .before .if1 .left)) (put-then p (c .before .before .put-byte2 .ensures))
+    rw (numeral-more (a .args .n) (c .before .before .before .before .before .before .before .before .if1 .left))
+    (put-then p (c .before .before .put-byte2 .ensures))
 
 pub +put-number-spec : {M : Type 1} → statement M
 +put-number-spec = close μ-put-number λ t. put-number-lts.spec (

@@ -6,7 +6,8 @@ use mathlib.Core.Path.{_≡_, refl, sym, _∙_}
 use native.Mathlib.Omega.{arith}
 use lib.ListN.{length, drop}
 use Rattle.text.specs.Scan.{fieldAt}
-use Rattle.text.proofs.FieldSteps.{fieldGoing, field-end, field-blank, field-starts, going-end, going-blank, going-low, going-high, going-wide, going-digit}
+use Rattle.text.proofs.FieldSteps.{fieldGoing, field-end, field-blank, field-starts, going-end, going-blank, going-low, going-high, going-wide}
+use Rattle.text.proofs.FieldSteps.{going-digit}
 use Rattle.text.proofs.reading.read_field.Statement.{statement}
 use Rattle.text.proofs.reading.read_field.Tie as tie
 
