@@ -27,6 +27,6 @@ side Left = one 0
 side Right = one 1
 
 -- 0 and the values, or the fault and its values
-abbrev pub told : Answer → List ℕ
-told (accepted values) = 0 ∷ values
-told (refused number values) = number ∷ values
+abbrev pub responses : Answer → List ℕ
+responses (accepted values) = 0 ∷ values
+responses (refused number values) = number ∷ values

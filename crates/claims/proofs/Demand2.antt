@@ -52,7 +52,7 @@ use Rattle.grants_file.proofs.PartLaws.{passes-read, part-first, part-grants, p
 use Rattle.grants_file.proofs.SetLaws.{set-touching}
 use Rattle.calls.specs.Calls.{startCall, listCall, decideCall, wordsStep}
 use Rattle.calls.specs.FileCalls.{grantAll, loadCall, matchCall, blockCall}
-use Rattle.calls.proofs.Represents.{numberOf, Represents, live-distinct, represents-rises}
+use Rattle.calls.proofs.Represents.{grantNumber, Represents, live-distinct, represents-rises}
 use Rattle.calls.proofs.QueryLaws.{list-refines, decide-refines}
 use Rattle.calls.proofs.StartLaws.{start-sized}
 use Rattle.calls.proofs.HoldsLaws.{represents-holds}
@@ -68,15 +68,15 @@ module _ {w : List ℕ} {b : Book} (h : Represents w b) where
       let same = list-refines h q lent .same in
       let wrote = bookList-writes b q lent n (sym (ap (λ (t : Response). t .answer) same) ∙ taken) in
       rw (ap (λ (t : Response). take n (t .lent)) same ∙ wrote)
-      (record { member = member; rising = rises-getD (λ n. n) 0 (rises-map numberOf (rises-filter numberOf (λ g. overlaps (g .bounds) q) (represents-rises h))) })
+      (record { member = member; rising = rises-getD (λ n. n) 0 (rises-map grantNumber (rises-filter grantNumber (λ g. overlaps (g .bounds) q) (represents-rises h))) })
     where
-      member : (n : ℕ) → List·Memᴰ n (map numberOf (overlapping q (b .live))) ↔ ((g : Grant) × List·Memᴰ g (b .live) × (g .number ≡ n) × Overlap (g .bounds) q)
+      member : (n : ℕ) → List·Memᴰ n (map grantNumber (overlapping q (b .live))) ↔ ((g : Grant) × List·Memᴰ g (b .live) × (g .number ≡ n) × Overlap (g .bounds) q)
       member n = (
         (λ m.
-            let o = Memᴰ·of-map numberOf (overlapping q (b .live)) m in
+            let o = Memᴰ·of-map grantNumber (overlapping q (b .live)) m in
             let both = overlapping-iff q (b .live) (o .0) .0 (o .1) in
             (o .0, both .0, o .2, both .1)),
-        (λ o. Memᴰ·cast (sym (o .2)) (Memᴰ·map numberOf (overlapping-iff q (b .live) (o .0) .1 (o .1, o .3)))),
+        (λ o. Memᴰ·cast (sym (o .2)) (Memᴰ·map grantNumber (overlapping-iff q (b .live) (o .0) .1 (o .1, o .3)))),
       )
 
   module _ (staff door quarter : ℕ) where
@@ -115,7 +115,7 @@ module _ {w : List ℕ} {b : Book} (h : Represents w b) where
     decide-foremost =
         let gs = overlapping q (b .live) in
         let none = decideAmong-none gs in
-        let apart = distinct-keys-filter numberOf (λ g. overlaps (g .bounds) q) (b .live) (live-distinct h) in (
+        let apart = distinct-keys-filter grantNumber (λ g. overlaps (g .bounds) q) (b .live) (live-distinct h) in (
           (
             (λ e g m o. none .0 (answer-iff decision.None .0 e) g (overlapping-iff q (b .live) g .1 (m, o))),
             (λ f. answer-iff decision.None .1 (none .1 (λ g m. let both = overlapping-iff q (b .live) g .0 m in f g (both .0) (both .1)))),

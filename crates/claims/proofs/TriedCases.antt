@@ -62,15 +62,15 @@ abbrev three : Request
 three = record { number = 3; rank = 20; kind = 0; bounds = box 150 150 12 12 0 65535 }
 
 -- one whose staff from parts it from the others at level 0
-abbrev broken : Request
-broken = record { number = 9; rank = 10; kind = 1; bounds = box 40000 40001 41 50 0 9 }
+abbrev nine : Request
+nine = record { number = 9; rank = 10; kind = 1; bounds = box 40000 40001 41 50 0 9 }
 
 -- a history with every refusal that the book knows, and an inner cell revoked
 abbrev calls : List Call
 calls =
     grant seven
     ∷ grant three
-    ∷ grant broken
+    ∷ grant nine
     ∷ grant seven
     ∷ list (box 0 65535 0 65535 0 65535) (1 ∷ 1 ∷ [])
     ∷ list (box 150 150 1 20 40 40) (1 ∷ 1 ∷ 1 ∷ [])
