@@ -19,12 +19,12 @@ use grants_file::block_read::block_part;
 use grants_file::block_read::block_verdict;
 use grants_file::layout::BLOCK_BYTES;
 use grants_file::layout::RECORDS_PLACE;
-use index::count::count;
-use index::decide::decide;
 use index::grant::grant;
 use index::revoke::revoke;
 use index::start::start;
 use model::Box;
+use queries::count::count;
+use queries::decide::decide;
 
 mod pack;
 
@@ -95,7 +95,7 @@ pub extern "C" fn lg_list(
         quarter_from,
         quarter_to,
     };
-    pack_listed(index::list::list(pool, bounds, list))
+    pack_listed(queries::list::list(pool, bounds, list))
 }
 
 // Refuses 1 and 9, in this order. `out` stays as it was unless the answer is opens or barred.

@@ -15,3 +15,4 @@ pub mod SoundLaws
 pub mod LinkCauseLaws
 pub mod OrderLaws
 pub mod FewHitsLaws
+pub mod RefusalSteps

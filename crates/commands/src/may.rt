@@ -7,11 +7,11 @@ use calendar::Base;
 use console::output::end;
 use console::output::say;
 use console::output::say_number;
-use index::decide::decide;
 use model::Decision;
 use model::Grant;
 use panel::rows::ROW_BYTES;
 use panel::rows::times_row;
+use queries::decide::decide;
 
 // The whole grant that decides.
 fn say_deciding(base: Base, g: Grant) {

@@ -34,7 +34,7 @@ use Rattle.calls.specs.FileCalls.{requestOf, grantAll, loadCall}
 use Rattle.index.specs.Plans.{added, addedAll}
 use Rattle.calls.specs.Contract.{Leaves}
 use Rattle.file_calls.proofs.AddedLaws.{file-added}
-use Rattle.index.proofs.RefusalSteps.{refusedBy, first-holds, first-fails, none-left, leaves-as, length-refused, length-taken}
+use Rattle.calls.proofs.RefusalSteps.{refusedBy, first-holds, first-fails, none-left, leaves-as, length-refused, length-taken}
 
 -- the grants from the i-th on
 module _ (f : List ℕ) where

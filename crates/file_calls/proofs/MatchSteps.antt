@@ -27,15 +27,15 @@ use Rattle.grants_file.specs.Verdict.{fileCauses}
 use Rattle.grants_file.specs.Answers.{fileAnswer}
 use Rattle.grants_file.specs.FileSets.{Accepted}
 use Rattle.grants_file.proofs.GrantSteps.{answer-accepted, answer-refused}
-use Rattle.index.specs.declared.hits.Hits.{Hits}
-use Rattle.index.specs.declared.hits.Hits.the-variants.{Broken, Found}
+use Rattle.queries.specs.declared.hits.Hits.{Hits}
+use Rattle.queries.specs.declared.hits.Hits.the-variants.{Broken, Found}
 use Rattle.calls.specs.Walks.{doorSearch, isBroken}
-use Rattle.index.specs.Hits.{HitsFound}
+use Rattle.queries.specs.Hits.{HitsFound}
 use Rattle.calls.specs.Order.{matchOrder}
 use Rattle.calls.specs.FileCalls.{touchingGrants, firstDifference, matchCall}
-use Rattle.index.proofs.HitsLaws.{broken-search, found-hits}
+use Rattle.queries.proofs.HitsLaws.{broken-search, found-hits}
 use Rattle.calls.proofs.MatchLaws.{match-refuses}
-use Rattle.index.proofs.RefusalSteps.{first-holds, first-fails, none-left, leaves-as, pool-refused, pool-taken}
+use Rattle.calls.proofs.RefusalSteps.{first-holds, first-fails, none-left, leaves-as, pool-refused, pool-taken}
 use Rattle.file_calls.specs.WriteKeys.{numberIn}
 use Rattle.file_calls.proofs.SortedCellLaws.{touching-sorted}
 

@@ -29,7 +29,7 @@ use Rattle.grants_file.specs.File.{recordBlocks, blocksFor, countIn, chunk, fil
 use Rattle.grants_file.proofs.BlockLaws.{length-headerBlock, length-recordBlock}
 use Rattle.grants_file.proofs.RecordLaws.{length-encodeRecord}
 use Rattle.grants_file.proofs.WriteBlockSteps.{sets-append, started, record-block}
-use Rattle.index.specs.Hits.{CellsAt}
+use Rattle.queries.specs.Hits.{CellsAt}
 use Rattle.file_calls.specs.WriteKeys.{recordsFile}
 
 -- a record stored is that of any grant equal to the one stored

@@ -8,7 +8,7 @@ ghost use Rattle.model.specs.Answer.{matchedAnswer, outcomeAnswer};
 ghost use Rattle.pool.specs.Cell.{grantAt};
 ghost use Rattle.grants_file.specs.File.{grantsIn};
 ghost use Rattle.grants_file.specs.FileSets.{Accepted};
-ghost use Rattle.index.specs.Hits.{CellsAt};
+ghost use Rattle.queries.specs.Hits.{CellsAt};
 ghost use Rattle.calls.specs.FileCalls.{firstDifference, matchCall};
 use crate::sorted_cells::sort_cells;
 use adt::search::HitCells;
@@ -18,8 +18,6 @@ use grants_file::grants::grant_in;
 use grants_file::grants::last_door;
 use grants_file::grants::total_in;
 use grants_file::verdict::judge;
-use index::hits::Hits;
-use index::hits::find_hits;
 use model::Fault;
 use model::Matched;
 use model::Outcome;
@@ -28,6 +26,8 @@ use pool::cell::grant_at;
 use pool::layout::MAX_CAPACITY;
 use pool::layout::capacity;
 use pool::layout::wide;
+use queries::hits::Hits;
+use queries::hits::find_hits;
 
 fn lower(a: u16, b: u16) -> u16
     ensures { λ r. ⌜ r ≡ min a b ⌝ }

@@ -8,12 +8,12 @@ use crate::write_file::write_file;
 use geometry::range::range_of_doors;
 use grants_file::file::blocks_for;
 use grants_file::layout::BLOCK_BYTES;
-use index::hits::Hits;
-use index::hits::find_hits;
 use model::Fault;
 use model::Written;
 use pool::layout::MAX_CAPACITY;
 use pool::layout::capacity;
+use queries::hits::Hits;
+use queries::hits::find_hits;
 
 pub fn write(pool: &[u16], door_from: u16, door_to: u16, bytes: &mut [u8]) -> Written
     ensures { λ r. ⌜ Lends (writtenAnswer r) (now (bytes .exit))

@@ -12,7 +12,7 @@ ghost use Rattle.grants_file.specs.Layout.{recordBytes, blockBytes, recordsPlac
 ghost use Rattle.grants_file.specs.Record.{encodeRecord};
 ghost use Rattle.grants_file.specs.Block.{headerBlock, recordBlock};
 ghost use Rattle.grants_file.specs.File.{blocksFor, chunk, fileOf};
-ghost use Rattle.index.specs.Hits.{CellsAt};
+ghost use Rattle.queries.specs.Hits.{CellsAt};
 ghost use Rattle.file_calls.specs.WriteKeys.{recordsFile};
 use adt::search::HitCells;
 use grants_file::file::blocks_for;

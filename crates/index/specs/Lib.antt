@@ -1,4 +1,3 @@
 -- What each call answers and leaves, on any words and bytes.
 pub mod NumberSearch
 pub mod Plans
-pub mod Hits

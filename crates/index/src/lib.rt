@@ -1,12 +1,8 @@
-// The entry points of the grant index: start, grant, revoke, list, decide and count (document 01, "The plain book" and "Faults").
+// The entry points of the grant index: start, grant and revoke (document 01, "The plain book" and "Faults").
 // Each takes any pool and any arguments, finds the fault itself, and leaves everything as it was where it refuses.
 // What each answers and leaves is its definition in specs/Calls. The calls that know of files stand in the crate file_calls.
 pub mod add;
-pub mod count;
-pub mod decide;
 mod find;
 pub mod grant;
-pub mod hits;
-pub mod list;
 pub mod revoke;
 pub mod start;

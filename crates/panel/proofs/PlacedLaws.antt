@@ -12,7 +12,7 @@ use lib.Seq.{getD-take, length-take-le}
 use Rattle.lists.specs.Sort.{sortBy}
 use Rattle.model.specs.declared.Grant.{Grant}
 use Rattle.pool.specs.Cell.{grantAt}
-use Rattle.index.specs.Hits.{CellsAt}
+use Rattle.queries.specs.Hits.{CellsAt}
 use Rattle.file_calls.specs.WriteKeys.{numberIn}
 use Rattle.file_calls.proofs.SortedCellLaws.{grants-sorted}
 use Rattle.precedence.specs.declared.Precedence.{Precedence}

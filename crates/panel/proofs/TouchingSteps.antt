@@ -15,12 +15,12 @@ use Rattle.geometry.specs.Region.{Region}
 use Rattle.geometry.specs.SearchRange.{rangeOfBox}
 use Rattle.pool.specs.Capacity.{poolCapacity}
 use Rattle.pool.specs.Cell.{grantAt}
-use Rattle.index.specs.declared.hits.Hits.{Hits}
-use Rattle.index.specs.declared.hits.Hits.the-variants.{Broken, Found}
-use Rattle.index.specs.Hits.{HitsFound}
+use Rattle.queries.specs.declared.hits.Hits.{Hits}
+use Rattle.queries.specs.declared.hits.Hits.the-variants.{Broken, Found}
+use Rattle.queries.specs.Hits.{HitsFound}
 use Rattle.calls.specs.Order.{lookOrder}
-use Rattle.index.proofs.HitsLaws.{broken-search, found-hits}
-use Rattle.index.proofs.RefusalSteps.{pool-refused, pool-taken}
+use Rattle.queries.proofs.HitsLaws.{broken-search, found-hits}
+use Rattle.calls.proofs.RefusalSteps.{pool-refused, pool-taken}
 use Rattle.panel.specs.declared.touching.Touching.{Touching}
 use Rattle.panel.specs.declared.touching.Touching.the-variants.{Refused}
 use Rattle.panel.specs.Touching.{doorBox, placed, touchingAt}

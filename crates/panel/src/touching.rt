@@ -5,14 +5,12 @@ ghost use mathlib.Core.List.{map};
 ghost use lib.ListN.{take};
 ghost use Rattle.lists.specs.Sort.{sortBy};
 ghost use Rattle.pool.specs.Cell.{grantAt};
-ghost use Rattle.index.specs.Hits.{CellsAt};
+ghost use Rattle.queries.specs.Hits.{CellsAt};
 ghost use Rattle.panel.specs.Touching.{doorBox, placed, touchingAt};
 use adt::search::HitCells;
 use file_calls::sorted_cells::sort_cells;
 use geometry::axis::TOP;
 use geometry::range::range_of_box;
-use index::hits::Hits;
-use index::hits::find_hits;
 use model::Box;
 use model::Fault;
 use model::Grant;
@@ -22,6 +20,8 @@ use pool::layout::capacity;
 use pool::layout::wide;
 use precedence::Precedence;
 use precedence::overriding::precedence_among;
+use queries::hits::Hits;
+use queries::hits::find_hits;
 
 pub enum Touching {
     Is {

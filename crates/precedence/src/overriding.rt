@@ -6,7 +6,7 @@ ghost use mathlib.Core.List.{map};
 ghost use lib.ListN.{take};
 ghost use Rattle.lists.specs.Tests.{any};
 ghost use Rattle.pool.specs.Cell.{grantAt};
-ghost use Rattle.index.specs.Hits.{CellsAt};
+ghost use Rattle.queries.specs.Hits.{CellsAt};
 ghost use Rattle.precedence.specs.Precedence.{overrides, precedence};
 ghost use Rattle.precedence.specs.PrecedenceWalk.{shareStaff, overridesSome, further, reach};
 use crate::Precedence;

@@ -18,12 +18,12 @@ use crate::printing::print_counted;
 use crate::printing::print_decision;
 use crate::printing::print_listed;
 use crate::printing::print_outcome;
-use index::count::count;
-use index::decide::decide;
 use index::grant::grant;
-use index::list::list;
 use index::revoke::revoke;
 use model::Box;
+use queries::count::count;
+use queries::decide::decide;
+use queries::list::list;
 
 // A line's call with its arguments. A kind above 1 is a value here; grant refuses it.
 pub enum Slip {

@@ -6,7 +6,7 @@ use mathlib.Core.List.{List}
 use Rattle.grants_file.specs.File.{grantsIn}
 use Rattle.grants_file.proofs.GrantSteps.{accepted-whole}
 use Rattle.index.specs.Plans.{addedAll}
-use Rattle.index.proofs.RefusalSteps.{length-taken}
+use Rattle.calls.proofs.RefusalSteps.{length-taken}
 use Rattle.file_calls.proofs.LoadSteps.{load-accepted, load-bad, load-file, load-full, load-done}
 use borrow.Author.Needs.{needs}
 use Rattle.file_calls.proofs.load.load.Statement.{statement}

@@ -1,6 +1,6 @@
 -- `grant::plan_insertion` meets its contract, in the order of grant's line. Assumes nothing.
 use Rattle.model.specs.Call.{request}
-use Rattle.index.proofs.RefusalSteps.{pool-refused, pool-taken}
+use Rattle.calls.proofs.RefusalSteps.{pool-refused, pool-taken}
 use Rattle.index.proofs.PlanLaws.{grant-pool, grant-zero, grant-kind, grant-reversed, grant-broken, grant-live, grant-absent}
 use Rattle.index.specs.NumberSearch.{NumberFound}
 use mathlib.Core.Path.{sym, subst, _∙_}

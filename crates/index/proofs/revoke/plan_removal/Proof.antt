@@ -1,5 +1,5 @@
 -- `revoke::plan_removal` meets its contract, in the order of revoke's line. Assumes nothing.
-use Rattle.index.proofs.RefusalSteps.{pool-refused, pool-taken}
+use Rattle.calls.proofs.RefusalSteps.{pool-refused, pool-taken}
 use Rattle.index.proofs.PlanLaws.{hit-deep, hit-step, revoke-pool, revoke-zero, revoke-broken, revoke-absent, revoke-removal-broken, revoke-planned}
 use Rattle.index.specs.NumberSearch.{NumberFound}
 use Rattle.adt.specs.WalkResult.{removalWalkOf}

@@ -1,5 +1,5 @@
 -- `start::start` meets its contract. Assumes nothing.
-use Rattle.index.proofs.RefusalSteps.{length-refused, length-taken}
+use Rattle.calls.proofs.RefusalSteps.{length-refused, length-taken}
 use Rattle.index.proofs.PlanLaws.{start-refused, start-done}
 use borrow.Author.Needs.{needs}
 use Rattle.index.proofs.start.start.Statement.{statement}

@@ -5,8 +5,8 @@ use mathlib.Core.Path.{_≡_, refl, sym, _∙_}
 use native.Mathlib.Omega.{arith}
 use borrow.Author.Needs.{needs}
 use Rattle.lists.specs.Tests.{any}
-use Rattle.index.proofs.HitsLaws.{cell-hit}
-use Rattle.index.proofs.DecideLaws.{grantsFrom}
+use Rattle.queries.proofs.HitsLaws.{cell-hit}
+use Rattle.queries.proofs.DecideLaws.{grantsFrom}
 use Rattle.precedence.specs.PrecedenceWalk.{overridesSome}
 use Rattle.precedence.proofs.HitScanLaws.{any-found, any-passed, any-none}
 use Rattle.precedence.proofs.overriding.overridden_some.Statement.{statement}

@@ -4,8 +4,8 @@ use Prim.Native.Nat.{_-_, _≤_}
 use mathlib.Core.Path.{_≡_, refl}
 use native.Mathlib.Omega.{arith}
 use borrow.Author.Needs.{needs}
-use Rattle.index.proofs.HitsLaws.{cell-hit}
-use Rattle.index.proofs.DecideLaws.{grantsFrom}
+use Rattle.queries.proofs.HitsLaws.{cell-hit}
+use Rattle.queries.proofs.DecideLaws.{grantsFrom}
 use Rattle.precedence.specs.PrecedenceWalk.{reach}
 use Rattle.precedence.proofs.HitScanLaws.{reach-passed, reach-end}
 use Rattle.precedence.proofs.overriding.reach.Statement.{statement}

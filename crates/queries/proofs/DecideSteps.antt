@@ -1,0 +1,47 @@
+-- What decide answers, test by test.
+--   decide-bad, decide-broken, decide-done    the pool is refused; the search is broken; the grants hit decide
+-- Assumes nothing.
+use Prim.Native.Nat.{ℕ}
+use mathlib.Core.Path.{_≡_, sym, ap, _∙_}
+use mathlib.Core.List.{List, map}
+use lib.ListN.{take}
+use Rattle.model.specs.declared.Box.{Box}
+use Rattle.model.specs.declared.Decision.{Decision}
+use Rattle.model.specs.declared.Fault.the-variants.{BadPool, BrokenLinks}
+use Rattle.model.specs.Box.{pointBox}
+use Rattle.model.specs.Answer.{decisionAnswer, refusal}
+use Rattle.model.specs.Decide.{decideAmong}
+use Rattle.geometry.specs.Region.{Region}
+use Rattle.geometry.specs.SearchRange.{rangeOfBox}
+use Rattle.pool.specs.Capacity.{poolCapacity}
+use Rattle.pool.specs.Cell.{grantAt}
+use Rattle.queries.specs.declared.hits.Hits.{Hits}
+use Rattle.queries.specs.declared.hits.Hits.the-variants.{Broken, Found}
+use Rattle.queries.specs.Hits.{HitsFound}
+use Rattle.calls.specs.Calls.{decideCall}
+use Rattle.queries.proofs.HitsLaws.{found-hits}
+use Rattle.queries.proofs.LookSteps.{look-bad, look-broken, look-done}
+
+module _ (w : List ℕ) (staff door quarter : ℕ) {c : ℕ} (e : c ≡ poolCapacity w) where
+  abbrev range : Region
+  range = rangeOfBox (pointBox staff door quarter)
+
+  pub decide-bad : c ≡ 0 → refusal BadPool ≡ decideCall w staff door quarter .answer
+  unfolding decideCall
+  decide-bad z = look-bad w range _ e z
+
+  module _ (n : ¬ (c ≡ 0)) {b : Box} {q : Region} (point : b ≡ pointBox staff door quarter) (a : q ≡ rangeOfBox b) where
+    asked : q ≡ range
+    asked = a ∙ ap rangeOfBox point
+
+    module _ (h : List ℕ) {r : Hits} (f : HitsFound w q h r) where
+      pub decide-broken : r ≡ Broken → refusal BrokenLinks ≡ decideCall w staff door quarter .answer
+      unfolding decideCall
+      decide-broken i = look-broken w range _ e n asked h f i
+
+      pub decide-done : {found : ℕ} → r ≡ Found found → {d : Decision} → d ≡ decideAmong (map (grantAt w) (take found h))
+          → decisionAnswer d ≡ decideCall w staff door quarter .answer
+      unfolding decideCall
+      decide-done i decided =
+          ap decisionAnswer (decided ∙ ap (λ (ks : List ℕ). decideAmong (map (grantAt w) ks)) (sym (found-hits w asked h f i .found)))
+          ∙ look-done w range _ e n asked h f i

@@ -1,0 +1,8 @@
+-- Laws of the queries' steps, for the crates above.
+pub mod HitsLaws
+pub mod LookSteps
+pub mod CountSteps
+pub mod NumberLaws
+pub mod ListSteps
+pub mod DecideLaws
+pub mod DecideSteps

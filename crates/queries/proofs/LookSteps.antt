@@ -1,0 +1,41 @@
+-- What decide and count answer, test by test: their order line is one, and each makes one search.
+--   look-bad, look-broken, look-done    the pool is refused; the search is broken; no cause holds
+-- Assumes nothing.
+use Prim.Native.Nat.{ℕ}
+use mathlib.Core.Path.{_≡_, ap, _∙_}
+use mathlib.Core.List.{List, []}
+use Rattle.model.specs.declared.Fault.the-variants.{BadPool, BrokenLinks}
+use Rattle.model.specs.Answer.{Answer, refusal}
+use Rattle.model.specs.Refusal.{Step, refusing}
+use Rattle.geometry.specs.Region.{Region}
+use Rattle.pool.specs.Capacity.{poolCapacity}
+use Rattle.adt.specs.Search.{search}
+use Rattle.queries.specs.declared.hits.Hits.{Hits}
+use Rattle.queries.specs.declared.hits.Hits.the-variants.{Broken, Found}
+use Rattle.calls.specs.Walks.{isBroken}
+use Rattle.queries.specs.Hits.{HitsFound}
+use Rattle.calls.specs.Order.{lookOrder}
+use Rattle.queries.proofs.HitsLaws.{broken-search, found-hits}
+use Rattle.calls.proofs.RefusalSteps.{first-holds, first-fails, none-left, leaves-as, pool-refused, pool-taken}
+
+-- a call that searches for the range q, and gives `done` where it is not refused
+module _ (w : List ℕ) (q : Region) (done : Step (List ℕ)) {c : ℕ} (e : c ≡ poolCapacity w) where
+  abbrev answer : Answer
+  answer = refusing (lookOrder w (isBroken (search w q))) w [] done .answer
+
+  pub look-bad : c ≡ 0 → refusal BadPool ≡ answer
+  unfolding lookOrder
+  look-bad z = leaves-as (first-holds w [] done _ _ (pool-refused w e z)) .answered
+
+  module _ (n : ¬ (c ≡ 0)) {p : Region} (same : p ≡ q) (h : List ℕ) {r : Hits} (f : HitsFound w p h r) where
+    pub look-broken : r ≡ Broken → refusal BrokenLinks ≡ answer
+    unfolding lookOrder
+    look-broken b =
+        leaves-as (first-fails w [] done _ _ (pool-taken w e n .right) ∙ first-holds w [] done _ _ (ap isBroken (broken-search w same h f b))) .answered
+
+    pub look-done : {found : ℕ} → r ≡ Found found → done .answer ≡ answer
+    unfolding lookOrder
+    look-done b =
+        let right = first-fails w [] done _ _ (pool-taken w e n .right) in
+        let unbroken = first-fails w [] done _ _ (found-hits w same h f b .unbroken) in
+        leaves-as (right ∙ unbroken ∙ none-left w [] done) .answered

@@ -1,0 +1,76 @@
+-- `decide::decide` meets its contract, test by test. Assumes nothing.
+use Rattle.calls.proofs.RefusalSteps.{pool-taken}
+use Rattle.queries.proofs.HitsLaws.{found-hits}
+use Rattle.queries.proofs.DecideSteps.{decide-bad, decide-broken, decide-done}
+use mathlib.Core.Path.{refl, sym, subst}
+use Rattle.geometry.specs.SearchRange.{OneSided}
+use Rattle.geometry.proofs.SearchRangeLaws.{box-one-sided}
+use borrow.Author.Needs.{needs}
+use Rattle.queries.proofs.decide.decide.Statement.{statement}
+use Rattle.queries.proofs.decide.decide.Tie as tie
+
+capacity-requires : tie.Need-capacity-requires
+capacity-requires c κs = search needs
+
+returns : tie.Need-returns
+returns c =
+    let start = c .before .before .before in
+    decide-bad (start .args .pool .now) (start .args .staff) (start .args .door) (start .args .quarter) (c .before .capacity .ensures) (c .if1 .taken)
+
+point-box-requires : tie.Need-point-box-requires
+point-box-requires c κs = search needs
+
+range-of-box-requires : tie.Need-range-of-box-requires
+range-of-box-requires c κs = search needs
+
+find-hits-requires : tie.Need-find-hits-requires
+find-hits-requires c κs =
+    let tested = c .before .before .before .before in
+    let t = pool-taken _ (tested .before .capacity .ensures) (tested .if1 .left) in
+    let range = c .before .before .range-of-box .ensures in
+    record { sized = t .sized; one-sided = subst OneSided (sym range) (box-one-sided _); room = refl }
+
+enum-known-found : tie.Need-enum-known-found
+enum-known-found c = search needs
+
+enum-told : tie.Need-enum-told
+enum-told c = search needs
+
+returns-2 : tie.Need-returns-2
+returns-2 c =
+    let searched = c .before .before in
+    let ranged = searched .before .before .before in
+    let tested = ranged .before .before in
+    let a = tested .before .before .before .args in
+    decide-broken (a .pool .now) (a .staff) (a .door) (a .quarter) (tested .before .capacity .ensures) (tested .if1 .left)
+    (ranged .before .point-box .ensures) (ranged .range-of-box .ensures) _ (searched .find-hits .ensures) (c .enum-told .given .1)
+
+decide-among-requires : tie.Need-decide-among-requires
+decide-among-requires c κs =
+    let found = c .before .before in
+    found-hits _ refl _ (found .before .before .find-hits .ensures) (found .found .given .1) .cells
+
+returns-3 : tie.Need-returns-3
+returns-3 c =
+    let found = c .before .before .before in
+    let searched = found .before .before in
+    let ranged = searched .before .before .before in
+    let tested = ranged .before .before in
+    let a = tested .before .before .before .args in
+    decide-done (a .pool .now) (a .staff) (a .door) (a .quarter) (tested .before .capacity .ensures) (tested .if1 .left)
+    (ranged .before .point-box .ensures) (ranged .range-of-box .ensures) _ (searched .find-hits .ensures) (found .found .given .1) (c .decide-among .ensures)
+
+pub decide-spec : {M : Type 1} → statement M
+decide-spec =
+    tie.close
+    (tie.spec
+    capacity-requires
+    returns
+    point-box-requires
+    range-of-box-requires
+    find-hits-requires
+    enum-known-found
+    enum-told
+    returns-2
+    decide-among-requires
+    returns-3)

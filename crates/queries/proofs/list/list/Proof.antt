@@ -1,0 +1,109 @@
+-- `list::list` meets its contract, test by test. Assumes nothing.
+use Rattle.calls.proofs.RefusalSteps.{pool-taken}
+use Rattle.queries.proofs.HitsLaws.{found-hits, cells-part}
+use Rattle.queries.proofs.ListSteps.{list-bad, list-reversed, list-broken, list-short, list-done}
+use mathlib.Core.Path.{refl, sym, subst}
+use lib.Seq.{length-take-le}
+use Rattle.geometry.specs.SearchRange.{OneSided}
+use Rattle.geometry.proofs.SearchRangeLaws.{box-one-sided}
+use borrow.Author.Needs.{needs}
+use Rattle.queries.proofs.list.list.Statement.{statement}
+use Rattle.queries.proofs.list.list.Tie as tie
+
+capacity-requires : tie.Need-capacity-requires
+capacity-requires c κs = search needs
+
+returns : tie.Need-returns
+returns c =
+    let start = c .before .before .before .before in
+    list-bad (start .args .pool .now) (start .args .bounds) (start .args .list .now) (c .before .capacity .ensures) (c .if1 .taken)
+
+is-reversed-requires : tie.Need-is-reversed-requires
+is-reversed-requires c κs = search needs
+
+returns-2 : tie.Need-returns-2
+returns-2 c =
+    let tested = c .before in
+    let a = tested .before .before .before .before .before .args in
+    list-reversed (a .pool .now) (a .bounds) (a .list .now) (tested .before .before .capacity .ensures) (tested .before .if1 .left)
+    (tested .is-reversed .ensures) (c .if2 .taken)
+
+range-of-box-requires : tie.Need-range-of-box-requires
+range-of-box-requires c κs = search needs
+
+find-hits-requires : tie.Need-find-hits-requires
+find-hits-requires c κs =
+    let tested = c .before .before .before .before in
+    let t = pool-taken _ (tested .before .before .capacity .ensures) (tested .before .if1 .left) in
+    let range = c .before .before .range-of-box .ensures in
+    record { sized = t .sized; one-sided = subst OneSided (sym range) (box-one-sided _); room = refl }
+
+enum-known-found : tie.Need-enum-known-found
+enum-known-found c = search needs
+
+enum-told : tie.Need-enum-told
+enum-told c = search needs
+
+returns-3 : tie.Need-returns-3
+returns-3 c =
+    let searched = c .before .before in
+    let ranged = searched .before .before .before in
+    let tested = ranged .before .before in
+    let a = tested .before .before .before .before .before .args in
+    list-broken (a .pool .now) (a .bounds) (a .list .now) (tested .before .before .capacity .ensures) (tested .before .if1 .left) (tested .is-reversed .ensures)
+    (ranged .before .if2 .left) (ranged .range-of-box .ensures) _ (searched .find-hits .ensures) (c .enum-told .given .1)
+
+returns-4 : tie.Need-returns-4
+returns-4 c =
+    let searched = c .before .before .before .before in
+    let ranged = searched .before .before .before in
+    let tested = ranged .before .before in
+    let a = tested .before .before .before .before .before .args in
+    list-short (a .pool .now) (a .bounds) (a .list .now) (tested .before .before .capacity .ensures) (tested .before .if1 .left) (tested .is-reversed .ensures)
+    (ranged .before .if2 .left) (ranged .range-of-box .ensures) _ (searched .find-hits .ensures) (c .before .before .found .given .1) (c .if3 .taken)
+
+slice-relend-prefix-write-numbers : tie.Need-slice-relend-prefix-write-numbers
+slice-relend-prefix-write-numbers c = search needs
+
+slice-aggregate-write-numbers : tie.Need-slice-aggregate-write-numbers
+slice-aggregate-write-numbers c = sym (length-take-le _ _ (c .before .before .if3 .left))
+
+write-numbers-requires : tie.Need-write-numbers-requires
+write-numbers-requires c κs =
+    let found = c .before .before .before .before in
+    let cells = found-hits _ refl _ (found .before .before .find-hits .ensures) (found .found .given .1) .cells in
+    cells-part cells _ (c .before .before .if3 .left)
+
+same-length : tie.Need-same-length
+same-length c = search needs
+
+returns-5 : tie.Need-returns-5
+returns-5 c =
+    let room = c .before .before .before .before .before in
+    let searched = room .before .before .before .before in
+    let ranged = searched .before .before .before in
+    let tested = ranged .before .before in
+    let a = tested .before .before .before .before .before .args in
+    list-done (a .pool .now) (a .bounds) (a .list .now) (tested .before .before .capacity .ensures) (tested .before .if1 .left) (tested .is-reversed .ensures)
+    (ranged .before .if2 .left) (ranged .range-of-box .ensures) _ (searched .find-hits .ensures) (room .before .before .found .given .1)
+    (room .if3 .left) (c .before .before .write-numbers .ensures)
+
+pub list-spec : {M : Type 1} → statement M
+list-spec =
+    tie.close
+    (tie.spec
+    capacity-requires
+    returns
+    is-reversed-requires
+    returns-2
+    range-of-box-requires
+    find-hits-requires
+    enum-known-found
+    enum-told
+    returns-3
+    returns-4
+    slice-relend-prefix-write-numbers
+    slice-aggregate-write-numbers
+    write-numbers-requires
+    same-length
+    returns-5)

@@ -1,0 +1,57 @@
+// decide: opens or barred with the whole grant that decides, or none (document 01, "The plain book"). Refuses by 1, then 9.
+ghost use mathlib.Core.Path.{_≡_};
+ghost use mathlib.Core.List.{map};
+ghost use lib.ListN.{take};
+ghost use Rattle.model.specs.Answer.{decisionAnswer};
+ghost use Rattle.model.specs.Decide.{decideAmong};
+ghost use Rattle.pool.specs.Cell.{grantAt};
+ghost use Rattle.queries.specs.Hits.{CellsAt};
+ghost use Rattle.calls.specs.Calls.{decideCall};
+use crate::hits::Hits;
+use crate::hits::find_hits;
+use adt::search::HitCells;
+use geometry::range::range_of_box;
+use model::Decision;
+use model::Fault;
+use model::decide::decision_of;
+use model::decide::outranks;
+use model::decide::point_box;
+use pool::cell::grant_at;
+use pool::layout::MAX_CAPACITY;
+use pool::layout::capacity;
+use pool::layout::wide;
+
+// What the grants in the first cells of the hits decide, in one pass: a later one takes the place only of one that it outranks.
+fn decide_among(pool: &[u16], hits: &HitCells, found: usize) -> Decision
+    requires { ⌜ CellsAt (now pool) (now hits) found ⌝ }
+    ensures { λ r. ⌜ r ≡ decideAmong (map (grantAt (now (pool .entry))) (take found (now (hits .entry)))) ⌝ }
+{
+    if found == 0 {
+        return Decision::None;
+    }
+    let mut deciding = grant_at(pool, wide(hits[0]));
+    let mut i: usize = 1;
+    while i < found {
+        let other = grant_at(pool, wide(hits[i]));
+        if outranks(other, deciding) {
+            deciding = other;
+        }
+        i += 1;
+    }
+    decision_of(deciding)
+}
+
+pub fn decide(pool: &[u16], staff: u16, door: u16, quarter: u16) -> Decision
+    ensures { λ r. ⌜ decisionAnswer r ≡ decideCall (now (pool .entry)) staff door quarter .answer ⌝ }
+{
+    let cells = capacity(pool);
+    if cells == 0 {
+        return Decision::Refused(Fault::BadPool);
+    }
+    let range = range_of_box(point_box(staff, door, quarter));
+    let mut hits = [0u16; MAX_CAPACITY];
+    let Hits::Found(found) = find_hits(pool, cells, &range, &mut hits) else {
+        return Decision::Refused(Fault::BrokenLinks);
+    };
+    decide_among(pool, &hits, found)
+}
