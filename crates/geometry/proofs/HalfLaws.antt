@@ -3,7 +3,7 @@
 --   meets-half                of a region that meets a search range, a half meets it exactly if it does on the axis that was halved
 --   meets-left, meets-right   and there only the end that moved can fail
 -- Assumes nothing.
-use Prim.Native.Nat.{ℕ, _+_, _/_, _<_, _≤_}
+use Prim.Native.Nat.{ℕ, _+_, _/_, _<_}
 use mathlib.Core.Path.{_≡_, refl, sym, ap, _∙_}
 use mathlib.Core.Bool.{true, _&&_, and-true}
 use mathlib.Core.List.{List, [], _∷_}

@@ -28,21 +28,21 @@ pub fn root_region() -> Region
 }
 
 // Where the lower half of a range ends.
-pub fn lower_end(low: u16, high: u16) -> u16
+fn lower_end(low: u16, high: u16) -> u16
     ensures { λ r. ⌜ r ≡ (low + high) / 2 ⌝ }
 {
     ((wide(low) + wide(high)) / 2) as u16
 }
 
 // Where the upper half begins.
-pub fn upper_start(low: u16, high: u16) -> u16
+fn upper_start(low: u16, high: u16) -> u16
     ensures { λ r. ⌜ r ≡ (low + high + 1) / 2 ⌝ }
 {
     ((wide(low) + wide(high) + 1) / 2) as u16
 }
 
 // The half of a range on a side.
-pub fn half_of(side: Side, low: u16, high: u16) -> [u16; 2]
+fn half_of(side: Side, low: u16, high: u16) -> [u16; 2]
     ensures { λ r. ⌜ r ≡ halfOf side low high ⌝ }
 {
     match side {

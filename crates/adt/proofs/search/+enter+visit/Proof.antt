@@ -106,7 +106,8 @@ enter-returns t c =
     let start = linked .before .before in
     let a = start .args in
     let p = start .pre .1 in
-    child-blank (a .pool .now) (a .cells) (a .range .now) (a .below) (linked .link-place .ensures .0) (read .wide .ensures .0) _ (p .testing .ready .counted) (c .if1 .taken)
+    child-blank (a .pool .now) (a .cells) (a .range .now) (a .below) (linked .link-place .ensures .0) (read .wide .ensures .0) _
+    (p .testing .ready .counted) (c .if1 .taken)
 
 enter-returns-2 : (t : ℕ) → enter-lts.Need-returns-2 (enter-calls t) (enter-at t) enter.Post
 enter-returns-2 t c =
@@ -116,8 +117,8 @@ enter-returns-2 t c =
     let start = linked .before .before in
     let a = start .args in
     let p = start .pre .1 in
-    child-deep (a .pool .now) (a .cells) (a .range .now) (a .below) (linked .link-place .ensures .0) (read .wide .ensures .0) _ (p .testing .ready .counted)
-    (one .if1 .left) (c .if2 .taken)
+    child-deep (a .pool .now) (a .cells) (a .range .now) (a .below) (linked .link-place .ensures .0) (read .wide .ensures .0) _
+    (p .testing .ready .counted) (one .if1 .left) (c .if2 .taken)
 
 enter-sub-axis-of : (t : ℕ) → enter-lts.Need-sub-axis-of (enter-calls t) (enter-at t) enter.Post
 enter-sub-axis-of t c = search needs
@@ -139,8 +140,9 @@ enter-returns-3 t c =
     let start = linked .before .before in
     let a = start .args in
     let p = start .pre .1 in
-    child-apart (a .pool .now) (a .cells) (a .range .now) (a .below) (linked .link-place .ensures .0) (read .wide .ensures .0) _ (p .testing .ready .counted)
-    (one .if1 .left) (two .if2 .left) (half-answer (a .side) _ (a .range .now) (axed .axis-of .ensures .0) (asked .half-meets .ensures) (not-true _ (c .if3 .taken)))
+    child-apart (a .pool .now) (a .cells) (a .range .now) (a .below) (linked .link-place .ensures .0) (read .wide .ensures .0) _
+    (p .testing .ready .counted) (one .if1 .left) (two .if2 .left)
+    (half-answer (a .side) _ (a .range .now) (axed .axis-of .ensures .0) (asked .half-meets .ensures) (not-true _ (c .if3 .taken)))
 
 enter-returns-4 : (t : ℕ) → enter-lts.Need-returns-4 (enter-calls t) (enter-at t) enter.Post
 enter-returns-4 t c =
@@ -154,8 +156,9 @@ enter-returns-4 t c =
     let start = linked .before .before in
     let a = start .args in
     let p = start .pre .1 in
-    child-past (a .pool .now) (a .cells) (a .range .now) (a .below) (linked .link-place .ensures .0) (read .wide .ensures .0) _ (p .testing .ready .counted)
-    (one .if1 .left) (two .if2 .left) (half-answer (a .side) _ (a .range .now) (axed .axis-of .ensures .0) (asked .half-meets .ensures) (not-false _ (three .if3 .left)))
+    child-past (a .pool .now) (a .cells) (a .range .now) (a .below) (linked .link-place .ensures .0) (read .wide .ensures .0) _
+    (p .testing .ready .counted) (one .if1 .left) (two .if2 .left)
+    (half-answer (a .side) _ (a .range .now) (axed .axis-of .ensures .0) (asked .half-meets .ensures) (not-false _ (three .if3 .left)))
     (c .if4 .taken)
 
 enter-halve-requires : (t : ℕ) → enter-lts.Need-halve-requires (enter-calls t) (enter-at t) enter.Post
@@ -205,8 +208,9 @@ enter-returns-5 t c =
     let a = start .args in
     let p = start .pre .1 in
     let child = halved .halve .ensures ∙ ap (half (a .side) _) (axed .axis-of .ensures .0) in
-    child-visited (a .pool .now) (a .cells) (a .range .now) (a .below) (linked .link-place .ensures .0) (read .wide .ensures .0) _ (p .testing .ready .counted)
-    (one .if1 .left) (two .if2 .left) (half-answer (a .side) _ (a .range .now) (axed .axis-of .ensures .0) (asked .half-meets .ensures) (not-false _ (three .if3 .left)))
+    child-visited (a .pool .now) (a .cells) (a .range .now) (a .below) (linked .link-place .ensures .0) (read .wide .ensures .0) _
+    (p .testing .ready .counted) (one .if1 .left) (two .if2 .left)
+    (half-answer (a .side) _ (a .range .now) (axed .axis-of .ensures .0) (asked .half-meets .ensures) (not-false _ (three .if3 .left)))
     (four .if4 .left) child (c .visit .ensures)
 
 visit-sub-level : (t : ℕ) → visit-lts.Need-sub-level (visit-calls t) (visit-at t) visit.Post
@@ -221,7 +225,8 @@ visit-returns t c =
     let start = tested .before .before .before .before in
     let a = start .args in
     let p = start .pre .1 in
-    visit-cut (a .pool .now) (a .cells) (a .range .now) (a .below) (a .link) (a .k) (a .region) (a .hits .now) (a .counters .now) (tested .test .ensures) (not-true _ (c .if1 .taken))
+    visit-cut (a .pool .now) (a .cells) (a .range .now) (a .below) (a .link) (a .k) (a .region) (a .hits .now) (a .counters .now)
+    (tested .test .ensures) (not-true _ (c .if1 .taken))
 
 visit-enter-requires : (t : ℕ) → visit-lts.Need-enter-requires (visit-calls t) (visit-at t) visit.Post
 visit-enter-requires t c κs =
@@ -239,8 +244,8 @@ visit-returns-2 t c =
     let start = tested .before .before .before .before in
     let a = start .args in
     let p = start .pre .1 in
-    visit-left-cut (a .pool .now) (a .cells) (a .range .now) (a .below) (a .link) (a .k) (a .region) (a .hits .now) (a .counters .now) (tested .test .ensures) (not-false _ (one .if1 .left))
-    (left .enter .ensures) (not-true _ (c .if2 .taken))
+    visit-left-cut (a .pool .now) (a .cells) (a .range .now) (a .below) (a .link) (a .k) (a .region) (a .hits .now) (a .counters .now)
+    (tested .test .ensures) (not-false _ (one .if1 .left)) (left .enter .ensures) (not-true _ (c .if2 .taken))
 
 visit-enter-requires-2 : (t : ℕ) → visit-lts.Need-enter-requires-2 (visit-calls t) (visit-at t) visit.Post
 visit-enter-requires-2 t c κs =
@@ -260,8 +265,8 @@ visit-returns-3 t c =
     let start = tested .before .before .before .before in
     let a = start .args in
     let p = start .pre .1 in
-    visit-whole (a .pool .now) (a .cells) (a .range .now) (a .below) (a .link) (a .k) (a .region) (a .hits .now) (a .counters .now) (tested .test .ensures) (not-false _ (one .if1 .left))
-    (left .enter .ensures) (not-false _ (two .if2 .left)) (c .enter2 .ensures)
+    visit-whole (a .pool .now) (a .cells) (a .range .now) (a .below) (a .link) (a .k) (a .region) (a .hits .now) (a .counters .now)
+    (tested .test .ensures) (not-false _ (one .if1 .left)) (left .enter .ensures) (not-false _ (two .if2 .left)) (c .enter2 .ensures)
 
 pub +enter+visit-spec : {M : Type 1} → statement M
 +enter+visit-spec = close μ-enter μ-visit (λ t. enter-lts.spec (enter-calls t)

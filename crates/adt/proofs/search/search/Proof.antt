@@ -5,7 +5,7 @@ use Rattle.geometry.proofs.RegionLaws.{root-shape}
 use Rattle.geometry.specs.Region.{Region, Shape, meets}
 use lib.Dec.{lit≤}
 use native.Mathlib.Omega.{arith}
-use mathlib.Core.Path.{_≡_, refl, sym, ap, subst, _∙_}
+use mathlib.Core.Path.{sym, ap, subst, _∙_}
 use borrow.Author.Tests.{not-true, not-false}
 use borrow.Author.Needs.{needs}
 use Rattle.adt.proofs.search.search.Statement.{statement}
@@ -71,8 +71,8 @@ returns-4 c =
     let start = rooted .before .before .before .before .before in
     let root = ap (λ (g : Region). meets g (start .args .range .now)) (sym (rooted .root-region .ensures)) in
     let m = root ∙ sym (two .before .meets-range .ensures) ∙ not-false _ (two .if2 .left) in
-    let some = rooted .before .if1 .left in
-    let visits = search-visits _ (start .pre .0) _ (rooted .before .before .wide .ensures .0) some (rooted .root-region .ensures) m (c .before .before .before .if3 .left) in
+    let visits = search-visits _ (start .pre .0) _ (rooted .before .before .wide .ensures .0) (rooted .before .if1 .left)
+    (rooted .root-region .ensures) m (c .before .before .before .if3 .left) in
     record { counted = v .counted; state = v .state ∙ visits }
 
 pub search-spec : {M : Type 1} → statement M

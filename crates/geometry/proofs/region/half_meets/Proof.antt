@@ -54,10 +54,14 @@ index-2-result-2 : tie.Need-index-2-result-2
 index-2-result-2 c = search needs
 
 returns : tie.Need-returns
-returns c = rw (c .before .before .enum-told .given .1, c .lower-end .ensures) (sym (meets-left (c .before .before .before .before .before .before .pre)))
+returns c =
+    let p = c .before .before .before .before .before .before .pre in
+    rw (c .before .before .enum-told .given .1, c .lower-end .ensures) (sym (meets-left p))
 
 returns-2 : tie.Need-returns-2
-returns-2 c = rw (c .before .before .enum-told2 .given .1, c .before .upper-start .ensures) (sym (meets-right (c .before .before .before .before .before .before .pre)))
+returns-2 c =
+    let p = c .before .before .before .before .before .before .pre in
+    rw (c .before .before .enum-told2 .given .1, c .before .upper-start .ensures) (sym (meets-right p))
 
 pub half-meets-spec : {M : Type 1} → statement M
 half-meets-spec =
