@@ -80,7 +80,15 @@ isDate-iff d =
             day-low = leb-true 1 (d .day) (four .1);
             day-high = leb-true (d .day) (monthDays (d .year) (d .month)) (five .1);
           }),
-      (λ h. rw (le-leb 1 (d .year) (h .year-low), le-leb (d .year) lastYear (h .year-high), le-leb 1 (d .month) (h .month-low), le-leb (d .month) 12 (h .month-high), le-leb 1 (d .day) (h .day-low)) (le-leb (d .day) (monthDays (d .year) (d .month)) (h .day-high))),
+      (λ h.
+          rw (
+            le-leb 1 (d .year) (h .year-low),
+            le-leb (d .year) lastYear (h .year-high),
+            le-leb 1 (d .month) (h .month-low),
+            le-leb (d .month) 12 (h .month-high),
+            le-leb 1 (d .day) (h .day-low),
+          )
+          (le-leb (d .day) (monthDays (d .year) (d .month)) (h .day-high))),
     )
 
 monthDays-some : (y m : ℕ) → 1 ≤ monthDays y m

@@ -130,7 +130,8 @@ module _ {w : List ℕ} {b : Book} (h : Represents w b) (r : Request) (fits : Re
       go (k ∷ ks) linked count some upright new room =
           let leads = request-leads new in
           rw (leads .way)
-          (insert-represents h linked (insert-keeps-linked linked request-fits request-inside (leads .way)) request-fits (omega arith) upright (not-live h (r .number) new))
+          (insert-represents h linked (insert-keeps-linked linked request-fits request-inside (leads .way)) request-fits (omega arith) upright
+          (not-live h (r .number) new))
 
   pub grant-refines : Agrees Represents (grantCall w r) (bookGrant b r)
   unfolding grantCall bookGrant

@@ -43,7 +43,8 @@ module _ {w : List ℕ} {b : Book} (h : Represents w b) where
   carried-same : {g : Grant} {p q : List Side} → CarriedAt w g p → CarriedAt w g q → q ≡ p
   carried-same {g} {p} {q} c d =
       linked-same (h .linked) p q (c .reached)
-      (distinct-key (λ k. grantAt w k .number) numbers-cells (nodeAt w q) (nodeAt w p) (linked-reached (h .linked) q (d .reached)) (linked-reached (h .linked) p (c .reached))
+      (distinct-key (λ k. grantAt w k .number) numbers-cells (nodeAt w q) (nodeAt w p)
+      (linked-reached (h .linked) q (d .reached)) (linked-reached (h .linked) p (c .reached))
       (ap grantNumber (sym (carried-is d) ∙ carried-is c)))
 
   live-carried : (g : Grant) → List·Memᴰ g (b .live) → (p : List Side) × CarriedAt w g p

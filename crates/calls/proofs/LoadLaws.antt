@@ -86,12 +86,19 @@ bookGrant-adds : (b : Book) (g : Grant) → Grantable g → isLive b (g .number)
     → bookGrant b (requestOf g) ≡ record { state = withLive b (insertBy grantNumber g (b .live)); answer = accepted []; lent = [] }
 unfolding bookGrant refusing firstFault
 bookGrant-adds b g t new room =
-    rw (ne-eqb (g .number) 0 (λ e. omega (arith, t .numbered)), known-kind (g .kind), t .upright, new, ne-eqb (length (b .live)) (b .capacity) (λ e. omega arith))
+    rw (
+      ne-eqb (g .number) 0 (λ e. omega (arith, t .numbered)),
+      known-kind (g .kind),
+      t .upright,
+      new,
+      ne-eqb (length (b .live)) (b .capacity) (λ e. omega arith),
+    )
     (ap (λ (x : Grant). record { state = withLive b (insertBy grantNumber x (b .live)); answer = accepted []; lent = [] }) (requested-requestOf g))
 
 module _ {w : List ℕ} {b : Book} (h : Represents w b) (g : Grant) (t : Grantable g) (new : isLive b (g .number) ≡ false)
     (room : length (b .live) < b .capacity) where
-  pub grant-adds : (grantCall w (requestOf g) .answer ≡ accepted []) × Represents (grantCall w (requestOf g) .state) (withLive b (insertBy grantNumber g (b .live)))
+  pub grant-adds : (grantCall w (requestOf g) .answer ≡ accepted [])
+      × Represents (grantCall w (requestOf g) .state) (withLive b (insertBy grantNumber g (b .live)))
   grant-adds =
       let agrees = rw (bookGrant-adds b g t new room) at (grant-refines h (requestOf g) (requestOf-fits (t .fits))) in
       (ap (λ (x : Response). x .answer) (agrees .same), agrees .related)

@@ -35,7 +35,8 @@ use Rattle.calls.proofs.Represents.{grantNumber, Represents, represents
 -- the order lines where the pool is right and no walk is broken
 list-order : (w : List ℕ) (q : Box) (lent : List ℕ) {broken : Bool} (hits numbers : List ℕ) → wrongPool w ≡ false → broken ≡ false
     → length hits ≡ length numbers
-    → firstFault (listOrder w q lent broken hits) ≡ firstFault (Reversed if reversedBox q ∷ ListTooShort (length numbers) if ltb (length lent) (length numbers) ∷ [])
+    → firstFault (listOrder w q lent broken hits)
+    ≡ firstFault (Reversed if reversedBox q ∷ ListTooShort (length numbers) if ltb (length lent) (length numbers) ∷ [])
 unfolding listOrder firstFault
 list-order w q lent hits numbers pool whole long = rw (pool, whole, long)
 

@@ -97,7 +97,14 @@ module _ {w : List ℕ} {b : Book} (h : Represents w b) where
 
   pub represents-count : length (b .live) + length (h .free) ≡ b .capacity
   represents-count =
-      omega (arith, linked-count (h .linked), cells-size (h .tree), length-map (cellsOf (h .tree)) (grantAt w), length-sortBy grantNumber (grantsOf w (h .tree)), ap length (h .live))
+      omega (
+        arith,
+        linked-count (h .linked),
+        cells-size (h .tree),
+        length-map (cellsOf (h .tree)) (grantAt w),
+        length-sortBy grantNumber (grantsOf w (h .tree)),
+        ap length (h .live),
+      )
 
   pub cells-distinct : Distinct (cellsOf (h .tree))
   cells-distinct = distinct-left (cellsOf (h .tree)) (h .free) (linked-distinct (h .linked))

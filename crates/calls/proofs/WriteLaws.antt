@@ -60,7 +60,11 @@ module _ {w : List ℕ} {b : Book} (h : Represents w b) (doors : Interval) where
       → writeCall w doors lent ≡ record { state = w; answer = accepted (length file ∷ []); lent = overwrite file lent }
   unfolding writeCall refusing
   represents-writes order lent room =
-      rw (write-order w doors lent (hitsOf (doorSearch w doors)) (represents-pool h) order (touching-found .whole) (rw length-needed room), length-needed, touching-found .grants)
+      rw (
+        write-order w doors lent (hitsOf (doorSearch w doors)) (represents-pool h) order (touching-found .whole) (rw length-needed room),
+        length-needed,
+        touching-found .grants,
+      )
 
   -- a live grant, in its cell
   live-carried : (g : Grant) → List·Memᴰ g (b .live) → (k : ℕ) × Carried w k g

@@ -68,7 +68,10 @@ module _ {w : List ℕ} {b : Book} (h : Represents w b) where
       let same = list-refines h q lent .same in
       let wrote = bookList-writes b q lent n (sym (ap (λ (t : Response). t .answer) same) ∙ taken) in
       rw (ap (λ (t : Response). take n (t .lent)) same ∙ wrote)
-      (record { member = member; rising = rises-getD (λ n. n) 0 (rises-map grantNumber (rises-filter grantNumber (λ g. overlaps (g .bounds) q) (represents-rises h))) })
+      (record {
+        member = member;
+        rising = rises-getD (λ n. n) 0 (rises-map grantNumber (rises-filter grantNumber (λ g. overlaps (g .bounds) q) (represents-rises h)));
+      })
     where
       member : (n : ℕ)
           → List·Memᴰ n (map grantNumber (overlapping q (b .live))) ↔ ((g : Grant) × List·Memᴰ g (b .live) × (g .number ≡ n) × Overlap (g .bounds) q)
@@ -111,7 +114,9 @@ module _ {w : List ℕ} {b : Book} (h : Represents w b) where
           }),
     )
 
-    pub decide-foremost : ((decideCall w staff door quarter .answer ≡ decisionAnswer decision.None) ↔ ((g : Grant) → List·Memᴰ g (b .live) → Overlap (g .bounds) q → ⊥))
+    pub decide-foremost :
+        ((decideCall w staff door quarter .answer ≡ decisionAnswer decision.None)
+        ↔ ((g : Grant) → List·Memᴰ g (b .live) → Overlap (g .bounds) q → ⊥))
         × ((g : Grant) → Decides (b .live) q g ↔ (decideCall w staff door quarter .answer ≡ decisionAnswer (decisionOf (g .kind) g)))
     decide-foremost =
         let gs = overlapping q (b .live) in

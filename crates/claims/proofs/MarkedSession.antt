@@ -50,7 +50,9 @@ abbrev lent : List ℕ
 lent = replicate 2048 0
 
 pub marked-session : sessionText bookStep (emptyBook 2048) lent (map ascii input) ≡ ascii output
-unfolding sessionText lineStep parseLine fieldsSlip letterSlip numbers fields decimal isNumber valueAfter every bookStep bookGrant bookRevoke bookList bookDecide bookCount refusing firstFault reversedBox overlaps insertBy filter any overwrite outranks decidingOf decideAmong numeral digitsBy eachAfterBlank
+unfolding sessionText lineStep parseLine fieldsSlip letterSlip numbers fields decimal isNumber valueAfter every
+    bookStep bookGrant bookRevoke bookList bookDecide bookCount refusing firstFault reversedBox overlaps insertBy filter any overwrite outranks
+    decidingOf decideAmong numeral digitsBy eachAfterBlank
 marked-session = refl
 
 -- the program's memory, of zeros, is of that size

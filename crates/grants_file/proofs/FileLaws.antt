@@ -65,7 +65,8 @@ module _ (doors : Interval) (gs : List Grant) where
   unfolding fileOf blockOf flatMap countFrom
   fileOf-blocks = ap (λ (l : List ℕ). headerBlock (length gs) doors ++ l) later
     where
-      later : flatMap (λ i. recordBlock i (chunk i gs)) (countFrom 1 (recordBlocks (length gs))) ≡ flatMap (blockOf doors gs) (countFrom 1 (recordBlocks (length gs)))
+      later : flatMap (λ i. recordBlock i (chunk i gs)) (countFrom 1 (recordBlocks (length gs)))
+          ≡ flatMap (blockOf doors gs) (countFrom 1 (recordBlocks (length gs)))
       later = rw (countFrom-suc 0 (recordBlocks (length gs)), flatMap-map, flatMap-map)
 
   length-blockOf : (i : ℕ) → length (blockOf doors gs i) ≡ blockBytes

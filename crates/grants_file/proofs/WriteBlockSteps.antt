@@ -74,7 +74,14 @@ module _ (b : List ℕ) (start : ℕ) (long : length b ≡ blockBytes) (h : star
       let whole : length filled ≡ blockBytes = length-sets b start zeros ∙ long in
       let sum : k ≡ checksum (take start b ++ zeros) = rw (d, take-filled) at c in
       s
-      ∙ rw (d, sum, sets-eq (be16 (checksum (take start b ++ zeros))) filled checksumPlace (omega (arith, whole)), take-filled, drop-of-length-le filled {i = checksumPlace + 2} (omega (arith, whole)), t)
+      ∙ rw (
+        d,
+        sum,
+        sets-eq (be16 (checksum (take start b ++ zeros))) filled checksumPlace (omega (arith, whole)),
+        take-filled,
+        drop-of-length-le filled {i = checksumPlace + 2} (omega (arith, whole)),
+        t,
+      )
       (append-nil _)
 
 -- document 01's mark, a number and a count

@@ -69,7 +69,8 @@ pub quarter-cases : Quarters (on 2026 1 1) "2026-01-01 00:00" (quarter.Is 0)
     × Quarters (on 2026 1 1) "2026-01-01  0:00" quarter.Bad
     × Quarters (on 2026 1 1) "2026-01-01T10:00" quarter.Bad
     × Quarters (on 2026 2 30) "2026-03-01 00:00" quarter.Bad
-unfolding quarterOf momentForm timeOf quarterAt daysFrom sameDate dateAfter nextDay dayIn dayForm dateOf isDate monthDays leapYear typedNumber decimal isNumber valueAfter every
+unfolding quarterOf momentForm timeOf quarterAt daysFrom sameDate dateAfter nextDay dayIn dayForm dateOf isDate monthDays leapYear
+    typedNumber decimal isNumber valueAfter every
 quarter-cases = (refl, refl, refl, refl, refl, refl, refl, refl, refl, refl)
 
 abbrev newYear : Base
@@ -88,7 +89,8 @@ pub question-cases : Asks newYear "who 12 40" (question.Who 12 40)
     × Asks newYear "" question.More
     × Asks newYear "help" question.Help
     × Asks newYear "quit" question.Quit
-unfolding questionOf timed marked plainQuestion timedQuestion begins sameNumbers numbers fields quarterOf momentForm timeOf quarterAt daysFrom sameDate dateAfter nextDay dayIn dayForm dateOf isDate monthDays leapYear typedNumber decimal isNumber valueAfter every
+unfolding questionOf timed marked plainQuestion timedQuestion begins sameNumbers numbers fields quarterOf momentForm timeOf quarterAt
+    daysFrom sameDate dateAfter nextDay dayIn dayForm dateOf isDate monthDays leapYear typedNumber decimal isNumber valueAfter every
 question-cases = (refl, refl, refl, refl, refl, refl, refl, refl, refl, refl)
 
 abbrev isBad : Question → Bool
@@ -108,5 +110,6 @@ badLines =
     ∷ "who 12 40 2026-01-01 10:00" ∷ "may 12 2026-01-01 10:00" ∷ "2026-01-01 10:00" ∷ "who 12 2026-01-01 24:00" ∷ []
 
 pub bad-questions : every (λ t. isBad (questionOf newYear (ascii t))) badLines ≡ true
-unfolding questionOf timed marked plainQuestion timedQuestion begins sameNumbers numbers fields quarterOf momentForm timeOf quarterAt daysFrom sameDate dateAfter nextDay dayIn dayForm dateOf isDate monthDays leapYear typedNumber decimal isNumber valueAfter every
+unfolding questionOf timed marked plainQuestion timedQuestion begins sameNumbers numbers fields quarterOf momentForm timeOf quarterAt
+    daysFrom sameDate dateAfter nextDay dayIn dayForm dateOf isDate monthDays leapYear typedNumber decimal isNumber valueAfter every
 bad-questions = refl

@@ -59,7 +59,13 @@ add-result-3 c = search needs
 returns : tie.Need-returns
 returns c =
     let start = c .before .before .before .before .before .before .before .before .before in
-    (rw (c .before .before .before .before .before .before .wide .ensures .0, c .before .before .before .before .wide2 .ensures .0, c .before .before .wide3 .ensures .0, c .wide4 .ensures .0) (four-bytes (start .args .bytes .now) (start .args .at) (start .pre)), omega arith)
+    let third = c .before .before in
+    let second = third .before .before in
+    let first = second .before .before in (
+      rw (first .wide .ensures .0, second .wide2 .ensures .0, third .wide3 .ensures .0, c .wide4 .ensures .0)
+          (four-bytes (start .args .bytes .now) (start .args .at) (start .pre)),
+      omega arith,
+    )
 
 pub four-at-spec : {M : Type 1} → statement M
 four-at-spec =

@@ -8,7 +8,12 @@ print-bad-requires : tie.Need-print-bad-requires
 print-bad-requires c κs = search needs
 
 returns : tie.Need-returns
-returns c = (prints-bad (c .before .before .before .before .before .before .args .pool .now) (c .before .before .before .before .before .before .args .lent .now) (c .before .before .before .before .before .before .args .line .now) (line-long (c .before .before .before .before .before .before .args .line .now) (c .before .before .if1 .taken)) (c .print-bad .ensures .0), c .print-bad .ensures .1)
+returns c =
+    let start = c .before .before .before .before .before .before in (
+      prints-bad (start .args .pool .now) (start .args .lent .now) (start .args .line .now)
+          (line-long (start .args .line .now) (c .before .before .if1 .taken)) (c .print-bad .ensures .0),
+      c .print-bad .ensures .1,
+    )
 
 parse-requires : tie.Need-parse-requires
 parse-requires c κs = search needs
@@ -68,13 +73,33 @@ same-length : tie.Need-same-length
 same-length c = search needs
 
 returns-2 : tie.Need-returns-2
-returns-2 c = (prints-grant (c .before .before .before .before .before .before .before .before .before .before .before .before .before .before .args .pool .now) (c .before .before .before .before .before .before .before .before .before .before .before .before .before .before .args .lent .now) (c .before .before .before .before .before .before .before .before .before .before .before .before .before .before .args .line .now) (line-slip (c .before .before .before .before .before .before .before .before .before .before .before .before .before .before .args .line .now) (c .before .before .before .before .before .before .before .before .before .before .if1 .left) (c .before .before .before .before .before .before .before .before .before .parse .ensures) (c .before .before .before .before .before .before .before .slip .given .1)) (c .before .before .before .before .grant .result) (c .before .before .before .before .grant .ensures) (c .print-outcome .ensures .0), c .print-outcome .ensures .1)
+returns-2 c =
+    let called = c .before .before .before .before in
+    let told = called .before .before .before in
+    let parsed = told .before .before in
+    let tested = parsed .before in
+    let start = tested .before .before .before .before in
+    let line = line-slip (start .args .line .now) (tested .if1 .left) (parsed .parse .ensures) (told .slip .given .1) in (
+      prints-grant (start .args .pool .now) (start .args .lent .now) (start .args .line .now) line (called .grant .result) (called .grant .ensures)
+          (c .print-outcome .ensures .0),
+      c .print-outcome .ensures .1,
+    )
 
 same-length-2 : tie.Need-same-length-2
 same-length-2 c = search needs
 
 returns-3 : tie.Need-returns-3
-returns-3 c = (prints-revoke (c .before .before .before .before .before .before .before .before .before .before .before .before .before .before .args .pool .now) (c .before .before .before .before .before .before .before .before .before .before .before .before .before .before .args .lent .now) (c .before .before .before .before .before .before .before .before .before .before .before .before .before .before .args .line .now) (line-slip (c .before .before .before .before .before .before .before .before .before .before .before .before .before .before .args .line .now) (c .before .before .before .before .before .before .before .before .before .before .if1 .left) (c .before .before .before .before .before .before .before .before .before .parse .ensures) (c .before .before .before .before .before .before .before .slip2 .given .1)) (c .before .before .before .before .revoke .result) (c .before .before .before .before .revoke .ensures) (c .print-outcome2 .ensures .0), c .print-outcome2 .ensures .1)
+returns-3 c =
+    let called = c .before .before .before .before in
+    let told = called .before .before .before in
+    let parsed = told .before .before in
+    let tested = parsed .before in
+    let start = tested .before .before .before .before in
+    let line = line-slip (start .args .line .now) (tested .if1 .left) (parsed .parse .ensures) (told .slip2 .given .1) in (
+      prints-revoke (start .args .pool .now) (start .args .lent .now) (start .args .line .now) line (called .revoke .result) (called .revoke .ensures)
+          (c .print-outcome2 .ensures .0),
+      c .print-outcome2 .ensures .1,
+    )
 
 same-length-3 : tie.Need-same-length-3
 same-length-3 c = search needs
@@ -83,22 +108,58 @@ same-length-4 : tie.Need-same-length-4
 same-length-4 c = search needs
 
 returns-4 : tie.Need-returns-4
-returns-4 c = (prints-list (c .before .before .before .before .before .before .before .before .before .before .before .before .before .before .before .before .args .pool .now) (c .before .before .before .before .before .before .before .before .before .before .before .before .before .before .before .before .args .lent .now) (c .before .before .before .before .before .before .before .before .before .before .before .before .before .before .before .before .args .line .now) (line-slip (c .before .before .before .before .before .before .before .before .before .before .before .before .before .before .before .before .args .line .now) (c .before .before .before .before .before .before .before .before .before .before .before .before .if1 .left) (c .before .before .before .before .before .before .before .before .before .before .before .parse .ensures) (c .before .before .before .before .before .before .before .before .before .slip3 .given .1)) (c .before .before .before .before .before .list .result) (c .before .before .before .before .before .list .ensures) (c .print-listed .ensures .0), c .print-listed .ensures .1)
+returns-4 c =
+    let called = c .before .before .before .before .before in
+    let told = called .before .before .before .before in
+    let parsed = told .before .before in
+    let tested = parsed .before in
+    let start = tested .before .before .before .before in
+    let line = line-slip (start .args .line .now) (tested .if1 .left) (parsed .parse .ensures) (told .slip3 .given .1) in (
+      prints-list (start .args .pool .now) (start .args .lent .now) (start .args .line .now) line (called .list .result) (called .list .ensures)
+          (c .print-listed .ensures .0),
+      c .print-listed .ensures .1,
+    )
 
 same-length-5 : tie.Need-same-length-5
 same-length-5 c = search needs
 
 returns-5 : tie.Need-returns-5
-returns-5 c = (prints-decide (c .before .before .before .before .before .before .before .before .before .before .before .before .args .pool .now) (c .before .before .before .before .before .before .before .before .before .before .before .before .args .lent .now) (c .before .before .before .before .before .before .before .before .before .before .before .before .args .line .now) (line-slip (c .before .before .before .before .before .before .before .before .before .before .before .before .args .line .now) (c .before .before .before .before .before .before .before .before .if1 .left) (c .before .before .before .before .before .before .before .parse .ensures) (c .before .before .before .before .before .slip4 .given .1)) (c .before .before .decide .result) (c .before .before .decide .ensures) (c .print-decision .ensures .0), c .print-decision .ensures .1)
+returns-5 c =
+    let called = c .before .before in
+    let told = called .before .before .before in
+    let parsed = told .before .before in
+    let tested = parsed .before in
+    let start = tested .before .before .before .before in
+    let line = line-slip (start .args .line .now) (tested .if1 .left) (parsed .parse .ensures) (told .slip4 .given .1) in (
+      prints-decide (start .args .pool .now) (start .args .lent .now) (start .args .line .now) line (called .decide .result) (called .decide .ensures)
+          (c .print-decision .ensures .0),
+      c .print-decision .ensures .1,
+    )
 
 same-length-6 : tie.Need-same-length-6
 same-length-6 c = search needs
 
 returns-6 : tie.Need-returns-6
-returns-6 c = (prints-count (c .before .before .before .before .before .before .before .before .before .before .before .args .pool .now) (c .before .before .before .before .before .before .before .before .before .before .before .args .lent .now) (c .before .before .before .before .before .before .before .before .before .before .before .args .line .now) (line-slip (c .before .before .before .before .before .before .before .before .before .before .before .args .line .now) (c .before .before .before .before .before .before .before .if1 .left) (c .before .before .before .before .before .before .parse .ensures) (c .before .before .before .before .enum-told .given .1)) (c .before .before .count .result) (c .before .before .count .ensures) (c .print-counted .ensures .0), c .print-counted .ensures .1)
+returns-6 c =
+    let called = c .before .before in
+    let told = called .before .before in
+    let parsed = told .before .before in
+    let tested = parsed .before in
+    let start = tested .before .before .before .before in
+    let line = line-slip (start .args .line .now) (tested .if1 .left) (parsed .parse .ensures) (told .enum-told .given .1) in (
+      prints-count (start .args .pool .now) (start .args .lent .now) (start .args .line .now) line (called .count .result) (called .count .ensures)
+          (c .print-counted .ensures .0),
+      c .print-counted .ensures .1,
+    )
 
 returns-7 : tie.Need-returns-7
-returns-7 c = (prints-bad (c .before .before .before .before .before .before .before .before .before .args .pool .now) (c .before .before .before .before .before .before .before .before .before .args .lent .now) (c .before .before .before .before .before .before .before .before .before .args .line .now) (line-slip (c .before .before .before .before .before .before .before .before .before .args .line .now) (c .before .before .before .before .before .if1 .left) (c .before .before .before .before .parse .ensures) (c .before .before .enum-told2 .given .1)) (c .print-bad2 .ensures .0), c .print-bad2 .ensures .1)
+returns-7 c =
+    let told = c .before .before in
+    let parsed = told .before .before in
+    let tested = parsed .before in
+    let start = tested .before .before .before .before in
+    let line = line-slip (start .args .line .now) (tested .if1 .left) (parsed .parse .ensures) (told .enum-told2 .given .1) in
+    (prints-bad (start .args .pool .now) (start .args .lent .now) (start .args .line .now) line (c .print-bad2 .ensures .0), c .print-bad2 .ensures .1)
 
 pub answer-spec : {M : Type 1} → statement M
 answer-spec =

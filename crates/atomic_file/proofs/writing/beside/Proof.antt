@@ -22,7 +22,9 @@ returns-2 : tie.Need-returns-2
 returns-2 c =
     let end = c .put-text2 in
     let path = c .before .before .before .put-text in
-    rw (le-ltb _ _ (c .before .before .before .before .before .if1 .left)) (put-line (put-then (path .ensures) (end .ensures)) (omega (arith, path .ensures .ends, end .ensures .ends, end .kept .0, path .kept .0, c .before .before .before .before .before .if1 .left)))
+    let room = c .before .before .before .before .before .if1 .left in
+    rw (le-ltb _ _ room)
+    (put-line (put-then (path .ensures) (end .ensures)) (omega (arith, path .ensures .ends, end .ensures .ends, end .kept .0, path .kept .0, room)))
 
 pub beside-spec : {M : Type 1} → statement M
 beside-spec =

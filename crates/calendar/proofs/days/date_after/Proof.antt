@@ -31,7 +31,8 @@ loop-again : tie.Need-loop-again Inv-loop μ-loop
 loop-again c =
     let loop = c .before .before .loop in
     let more = c .before .loop-test .taken in
-    (next-year (loop .date) (loop .left) more (loop .inv .0) (c .next-day .ensures), after-turn (loop .date) (loop .left) more (c .next-day .ensures) (loop .inv .1))
+    let next = c .next-day .ensures in
+    (next-year (loop .date) (loop .left) more (loop .inv .0) next, after-turn (loop .date) (loop .left) more next (loop .inv .1))
 
 returns : tie.Need-returns Inv-loop μ-loop
 returns c = after-end (c .before .loop .date) (c .before .loop .left) (c .loop-test .left) (c .before .loop .inv .1)

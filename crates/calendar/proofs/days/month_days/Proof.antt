@@ -27,15 +27,35 @@ returns-4 c = rw (ne-eqb _ _ (c .before .before .if1 .left), ne-eqb _ _ (c .befo
 
 returns-5 : tie.Need-returns-5
 unfolding monthDays
-returns-5 c = rw (ne-eqb _ _ (c .before .before .before .if1 .left), ne-eqb _ _ (c .before .before .if3 .left), ne-eqb _ _ (c .before .if4 .left), eq-eqb _ _ (c .if5 .taken))
+returns-5 c =
+    let third = c .before .before in
+    rw (ne-eqb _ _ (third .before .if1 .left), ne-eqb _ _ (third .if3 .left), ne-eqb _ _ (c .before .if4 .left), eq-eqb _ _ (c .if5 .taken))
 
 returns-6 : tie.Need-returns-6
 unfolding monthDays
-returns-6 c = rw (ne-eqb _ _ (c .before .before .before .before .if1 .left), ne-eqb _ _ (c .before .before .before .if3 .left), ne-eqb _ _ (c .before .before .if4 .left), ne-eqb _ _ (c .before .if5 .left), eq-eqb _ _ (c .if6 .taken))
+returns-6 c =
+    let fourth = c .before .before in
+    let first = fourth .before .before in
+    rw (
+      ne-eqb _ _ (first .if1 .left),
+      ne-eqb _ _ (fourth .before .if3 .left),
+      ne-eqb _ _ (fourth .if4 .left),
+      ne-eqb _ _ (c .before .if5 .left),
+      eq-eqb _ _ (c .if6 .taken),
+    )
 
 returns-7 : tie.Need-returns-7
 unfolding monthDays
-returns-7 c = rw (ne-eqb _ _ (c .before .before .before .before .if1 .left), ne-eqb _ _ (c .before .before .before .if3 .left), ne-eqb _ _ (c .before .before .if4 .left), ne-eqb _ _ (c .before .if5 .left), ne-eqb _ _ (c .if6 .left))
+returns-7 c =
+    let fourth = c .before .before in
+    let first = fourth .before .before in
+    rw (
+      ne-eqb _ _ (first .if1 .left),
+      ne-eqb _ _ (fourth .before .if3 .left),
+      ne-eqb _ _ (fourth .if4 .left),
+      ne-eqb _ _ (c .before .if5 .left),
+      ne-eqb _ _ (c .if6 .left),
+    )
 
 pub month-days-spec : {M : Type 1} → statement M
 month-days-spec =

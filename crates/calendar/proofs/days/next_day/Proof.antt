@@ -26,7 +26,10 @@ unfolding nextDay
 returns-2 c =
     let first = c .before .before .before in
     let d = first .before .before .before .args .d in
-    rw (le-ltb (d .day) (monthDays (d .year) (d .month)) (omega (arith, first .if1 .left, first .before .before .month-days .ensures)), lt-ltb (d .month) 12 (c .before .if2 .taken))
+    rw (
+      le-ltb (d .day) (monthDays (d .year) (d .month)) (omega (arith, first .if1 .left, first .before .before .month-days .ensures)),
+      lt-ltb (d .month) 12 (c .before .if2 .taken),
+    )
 
 add-t6 : tie.Need-add-t6
 add-t6 c = search needs
@@ -36,7 +39,10 @@ unfolding nextDay
 returns-3 c =
     let first = c .before .before .before in
     let d = first .before .before .before .args .d in
-    rw (le-ltb (d .day) (monthDays (d .year) (d .month)) (omega (arith, first .if1 .left, first .before .before .month-days .ensures)), le-ltb (d .month) 12 (c .before .if2 .left))
+    rw (
+      le-ltb (d .day) (monthDays (d .year) (d .month)) (omega (arith, first .if1 .left, first .before .before .month-days .ensures)),
+      le-ltb (d .month) 12 (c .before .if2 .left),
+    )
 
 pub next-day-spec : {M : Type 1} → statement M
 next-day-spec =

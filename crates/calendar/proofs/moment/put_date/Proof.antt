@@ -45,7 +45,9 @@ returns c =
     let hyphen = month .before .before .before .before .before in
     let year = hyphen .before .before .before .before in
     let century = year .before .before .before .before .before in
-    put-then (put-then (put-then (century .put-two .ensures) (year .put-two2 .ensures)) (put-then (hyphen .put-byte .ensures) (month .put-two3 .ensures))) (put-then (dash .put-byte2 .ensures) (day .put-two4 .ensures))
+    put-then
+    (put-then (put-then (century .put-two .ensures) (year .put-two2 .ensures)) (put-then (hyphen .put-byte .ensures) (month .put-two3 .ensures)))
+    (put-then (dash .put-byte2 .ensures) (day .put-two4 .ensures))
 
 pub put-date-spec : {M : Type 1} → statement M
 put-date-spec =

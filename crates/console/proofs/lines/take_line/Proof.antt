@@ -40,7 +40,14 @@ loop-less : tie.Need-loop-less Inv-loop μ-loop
 loop-less c = search needs
 
 loop-again : tie.Need-loop-again Inv-loop μ-loop
-loop-again c = let l = c .before .before .before .before .before .before .before .loop .inv in (l .0, ahead-byte _ _ _ _ _ (l .0 .read) _ _ _ (l .1) (c .before .before .before .before .before .before .loop-test .taken) (ne-eqb _ _ (c .before .before .before .before .if1 .left)) _ _ (search needs) (c .before .before .hold .ensures))
+loop-again c =
+    let held = c .before .before in
+    let unlike = held .before .before in
+    let turn = unlike .before .before in
+    let l = turn .before .loop .inv in (
+      l .0,
+      ahead-byte _ _ _ _ _ (l .0 .read) _ _ _ (l .1) (turn .loop-test .taken) (ne-eqb _ _ (unlike .if1 .left)) _ _ (search needs) (held .hold .ensures),
+    )
 
 same-length-2 : tie.Need-same-length-2 Inv-loop μ-loop
 same-length-2 c = search needs

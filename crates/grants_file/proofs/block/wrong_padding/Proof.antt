@@ -27,7 +27,8 @@ shared-slice-read-if1 c = search needs
 returns : tie.Need-returns Inv-loop μ-loop
 returns c =
     let l = c .before .before .before .loop in
-    sym (l .inv .1 ∙ ap not (padding-found (c .before .before .before .before .args .block .now) (l .at) (l .inv .0) (c .before .before .loop-test .taken) (c .if1 .taken)))
+    let inside = c .before .before .loop-test .taken in
+    sym (l .inv .1 ∙ ap not (padding-found (c .before .before .before .before .args .block .now) (l .at) (l .inv .0) inside (c .if1 .taken)))
 
 add-at : tie.Need-add-at Inv-loop μ-loop
 add-at c = search needs
@@ -38,7 +39,8 @@ loop-less c = search needs
 loop-again : tie.Need-loop-again Inv-loop μ-loop
 loop-again c =
     let l = c .before .before .before .loop in
-    (l .inv .0, l .inv .1 ∙ ap not (padding-next (c .before .before .before .before .args .block .now) (l .at) (l .inv .0) (c .before .before .loop-test .taken) (c .if1 .left)))
+    let inside = c .before .before .loop-test .taken in
+    (l .inv .0, l .inv .1 ∙ ap not (padding-next (c .before .before .before .before .args .block .now) (l .at) (l .inv .0) inside (c .if1 .left)))
 
 returns-2 : tie.Need-returns-2 Inv-loop μ-loop
 returns-2 c =

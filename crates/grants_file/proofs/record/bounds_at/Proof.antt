@@ -42,7 +42,22 @@ be16-at-requires-6 : tie.Need-be16-at-requires-6
 be16-at-requires-6 c κs = search needs
 
 returns : tie.Need-returns
-returns c = rw (c .before .before .before .before .before .be16-at .ensures, c .before .before .before .before .be16-at2 .ensures, c .before .before .before .be16-at3 .ensures, c .before .before .be16-at4 .ensures, c .before .be16-at5 .ensures, c .be16-at6 .ensures) (sym (bounds-at (c .before .before .before .before .before .before .before .args .bytes .now) (c .before .before .before .before .before .before .before .args .at)))
+returns c =
+    let quarter-from = c .before in
+    let door-to = quarter-from .before in
+    let door-from = door-to .before in
+    let staff-to = door-from .before in
+    let staff-from = staff-to .before in
+    let start = staff-from .before .before in
+    rw (
+      staff-from .be16-at .ensures,
+      staff-to .be16-at2 .ensures,
+      door-from .be16-at3 .ensures,
+      door-to .be16-at4 .ensures,
+      quarter-from .be16-at5 .ensures,
+      c .be16-at6 .ensures,
+    )
+    (sym (bounds-at (start .args .bytes .now) (start .args .at)))
 
 pub bounds-at-spec : {M : Type 1} → statement M
 bounds-at-spec =

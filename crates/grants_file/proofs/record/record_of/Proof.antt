@@ -52,7 +52,31 @@ low-requires-7 c κs = search needs
 
 returns : tie.Need-returns
 unfolding encodeRecord flatMap
-returns c = rw (c .before .before .before .before .before .before .before .before .before .before .before .before .before .before .high .ensures, c .before .before .before .before .before .before .before .before .before .before .before .before .before .low .ensures, c .before .before .before .before .before .before .before .before .before .before .before .before .kind-number .ensures .0, c .before .before .before .before .before .before .before .before .before .before .before .high2 .ensures, c .before .before .before .before .before .before .before .before .before .before .low2 .ensures, c .before .before .before .before .before .before .before .before .before .high3 .ensures, c .before .before .before .before .before .before .before .before .low3 .ensures, c .before .before .before .before .before .before .before .high4 .ensures, c .before .before .before .before .before .before .low4 .ensures, c .before .before .before .before .before .high5 .ensures, c .before .before .before .before .low5 .ensures, c .before .before .before .high6 .ensures, c .before .before .low6 .ensures, c .before .high7 .ensures, c .low7 .ensures)
+returns c =
+    let quarter-from = c .before .before in
+    let door-to = quarter-from .before .before in
+    let door-from = door-to .before .before in
+    let staff-to = door-from .before .before in
+    let staff-from = staff-to .before .before in
+    let kind = staff-from .before .before in
+    let number = kind .before in
+    rw (
+      number .before .high .ensures,
+      number .low .ensures,
+      kind .kind-number .ensures .0,
+      staff-from .before .high2 .ensures,
+      staff-from .low2 .ensures,
+      staff-to .before .high3 .ensures,
+      staff-to .low3 .ensures,
+      door-from .before .high4 .ensures,
+      door-from .low4 .ensures,
+      door-to .before .high5 .ensures,
+      door-to .low5 .ensures,
+      quarter-from .before .high6 .ensures,
+      quarter-from .low6 .ensures,
+      c .before .high7 .ensures,
+      c .low7 .ensures,
+    )
 
 pub record-of-spec : {M : Type 1} → statement M
 record-of-spec =

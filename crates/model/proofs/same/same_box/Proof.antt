@@ -48,7 +48,14 @@ returns-6 c =
     let three = four .before .before .before in
     let two = three .before .before .before in
     let one = two .before .before .before in
-    rw (eq-eqb _ _ (one .if1 .left), eq-eqb _ _ (two .if2 .left), eq-eqb _ _ (three .if3 .left), eq-eqb _ _ (four .if4 .left), eq-eqb _ _ (five .if5 .left)) (sym (and-true _))
+    rw (
+      eq-eqb _ _ (one .if1 .left),
+      eq-eqb _ _ (two .if2 .left),
+      eq-eqb _ _ (three .if3 .left),
+      eq-eqb _ _ (four .if4 .left),
+      eq-eqb _ _ (five .if5 .left),
+    )
+    (sym (and-true _))
 
 pub same-box-spec : {M : Type 1} → statement M
 same-box-spec = tie.close (tie.spec returns returns-2 returns-3 returns-4 returns-5 returns-6)

@@ -28,7 +28,11 @@ returns-3 c =
     let ours = theirs .before in
     let two = ours .before in
     let one = two .before .before .before in
-    rw (eq-eqb _ _ (one .if1 .left), eq-eqb _ _ (two .if2 .left), ne-eqb _ _ (λ e. c .if3 .taken (ours .kind-number .ensures .0 ∙ e ∙ sym (theirs .kind-number2 .ensures .0))))
+    rw (
+      eq-eqb _ _ (one .if1 .left),
+      eq-eqb _ _ (two .if2 .left),
+      ne-eqb _ _ (λ e. c .if3 .taken (ours .kind-number .ensures .0 ∙ e ∙ sym (theirs .kind-number2 .ensures .0))),
+    )
 
 same-box-requires : tie.Need-same-box-requires
 same-box-requires c κs = search needs
@@ -41,7 +45,8 @@ returns-4 c =
     let ours = theirs .before in
     let two = ours .before in
     let one = two .before .before .before in
-    rw (eq-eqb _ _ (one .if1 .left), eq-eqb _ _ (two .if2 .left), eq-eqb _ _ (sym (ours .kind-number .ensures .0) ∙ three .if3 .left ∙ theirs .kind-number2 .ensures .0)) (c .same-box .ensures)
+    let kind = sym (ours .kind-number .ensures .0) ∙ three .if3 .left ∙ theirs .kind-number2 .ensures .0 in
+    rw (eq-eqb _ _ (one .if1 .left), eq-eqb _ _ (two .if2 .left), eq-eqb _ _ kind) (c .same-box .ensures)
 
 pub same-grant-spec : {M : Type 1} → statement M
 same-grant-spec =

@@ -33,7 +33,14 @@ returns c =
     let columns = gap .before .before .before in
     put-line
     (put-then (put-then (put-then (columns .put-columns .ensures .0) (gap .put-text .ensures)) (kind .put-kind .ensures .0)) (c .put-byte .ensures))
-    (omega (arith, columns .put-columns .ensures .1, gap .put-text .ensures .ends, kind .put-kind .ensures .1, c .put-byte .ensures .ends, c .put-byte .kept .0))
+    (omega (
+      arith,
+      columns .put-columns .ensures .1,
+      gap .put-text .ensures .ends,
+      kind .put-kind .ensures .1,
+      c .put-byte .ensures .ends,
+      c .put-byte .kept .0,
+    ))
 
 pub grant-row-spec : {M : Type 1} → statement M
 grant-row-spec =

@@ -31,14 +31,20 @@ print-note-requires c κs =
 returns : tie.Need-returns
 returns c =
     let start = c .before .before .before in
-    (shown-is (start .args .base) (c .before .before .shown-base .ensures) (λ (x : Base). noteAfter x (start .args .quarter)) (c .enum-told .given .1), (omega arith, refl))
+    let shown = c .before .before .shown-base .ensures in
+    (shown-is (start .args .base) shown (λ (x : Base). noteAfter x (start .args .quarter)) (c .enum-told .given .1), (omega arith, refl))
 
 returns-2 : tie.Need-returns-2
 returns-2 c =
     let wide = c .before .before in
     let day = wide .before .before in
     let start = day .before .before .before in
-    (c .print-note .ensures .0 ∙ ap (λ (q : ℕ). noteAfter (Day (day .shown .given .0 .0)) q) (wide .wide .ensures .0) ∙ shown-is (start .args .base) (day .before .before .shown-base .ensures) (λ (x : Base). noteAfter x (start .args .quarter)) (day .shown .given .1), c .print-note .ensures .1)
+    let shown = day .before .before .shown-base .ensures in
+    let note = c .print-note .ensures in (
+      note .0 ∙ ap (λ (q : ℕ). noteAfter (Day (day .shown .given .0 .0)) q) (wide .wide .ensures .0)
+          ∙ shown-is (start .args .base) shown (λ (x : Base). noteAfter x (start .args .quarter)) (day .shown .given .1),
+      note .1,
+    )
 
 pub moment-text-spec : {M : Type 1} → statement M
 moment-text-spec =

@@ -40,8 +40,18 @@ returns c =
     let text = from .before .before .before in
     rw (← from .before .wide .ensures .0, ← end .before .quarter-after .ensures .0)
     (put-line
-    (put-then (put-then (text .put-text .ensures) (put-then (from .put-moment .ensures) (put-then (until .put-text2 .ensures) (end .put-moment2 .ensures)))) (c .put-byte .ensures))
-    (omega (arith, text .put-text .ensures .ends, from .put-moment .ensures .ends, until .put-text2 .ensures .ends, end .put-moment2 .ensures .ends, c .put-byte .ensures .ends, c .put-byte .kept .0)))
+    (put-then
+    (put-then (text .put-text .ensures) (put-then (from .put-moment .ensures) (put-then (until .put-text2 .ensures) (end .put-moment2 .ensures))))
+    (c .put-byte .ensures))
+    (omega (
+      arith,
+      text .put-text .ensures .ends,
+      from .put-moment .ensures .ends,
+      until .put-text2 .ensures .ends,
+      end .put-moment2 .ensures .ends,
+      c .put-byte .ensures .ends,
+      c .put-byte .kept .0,
+    )))
 
 pub print-times-spec : {M : Type 1} → statement M
 print-times-spec =

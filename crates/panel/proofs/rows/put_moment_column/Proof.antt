@@ -37,7 +37,10 @@ returns c =
     let put = c .before .before in
     let told = put .before .before .before in
     let start = told .before .before .before .before in
-    (put-as (shown-is (start .args .base) (told .before .before .shown-base .ensures) (λ (x : Base). momentColumn x (start .args .quarter)) (told .enum-told .given .1)) (put .put-text .ensures), omega (arith, put .put-text .ensures .ends))
+    let shown = told .before .before .shown-base .ensures in (
+      put-as (shown-is (start .args .base) shown (λ (x : Base). momentColumn x (start .args .quarter)) (told .enum-told .given .1)) (put .put-text .ensures),
+      omega (arith, put .put-text .ensures .ends),
+    )
 
 same-length-2 : tie.Need-same-length-2
 same-length-2 c = search needs
@@ -47,7 +50,10 @@ returns-2 c =
     let put = c .before .before in
     let day = put .before .before .before in
     let start = day .before .before .before .before in
-    (put-as (shown-is (start .args .base) (day .before .before .shown-base .ensures) (λ (x : Base). momentColumn x (start .args .quarter)) (day .shown .given .1)) (put .put-moment .ensures), omega (arith, put .put-moment .ensures .ends))
+    let shown = day .before .before .shown-base .ensures in (
+      put-as (shown-is (start .args .base) shown (λ (x : Base). momentColumn x (start .args .quarter)) (day .shown .given .1)) (put .put-moment .ensures),
+      omega (arith, put .put-moment .ensures .ends),
+    )
 
 pub put-moment-column-spec : {M : Type 1} → statement M
 put-moment-column-spec =

@@ -25,13 +25,16 @@ print-times-requires c κs =
 returns : tie.Need-returns
 returns c =
     let start = c .before .before .before in
-    (shown-is (start .args .base) (c .before .before .shown-base .ensures) (λ (x : Base). timesFrom x (start .args .g)) (c .enum-told .given .1), (omega arith, refl))
+    let shown = c .before .before .shown-base .ensures in
+    (shown-is (start .args .base) shown (λ (x : Base). timesFrom x (start .args .g)) (c .enum-told .given .1), (omega arith, refl))
 
 returns-2 : tie.Need-returns-2
 returns-2 c =
     let day = c .before .before .before in
     let start = day .before .before .before in
-    (c .print-times .ensures .0 ∙ shown-is (start .args .base) (day .before .before .shown-base .ensures) (λ (x : Base). timesFrom x (start .args .g)) (day .shown .given .1), c .print-times .ensures .1)
+    let shown = day .before .before .shown-base .ensures in
+    let times = c .print-times .ensures in
+    (times .0 ∙ shown-is (start .args .base) shown (λ (x : Base). timesFrom x (start .args .g)) (day .shown .given .1), times .1)
 
 pub times-row-spec : {M : Type 1} → statement M
 times-row-spec =

@@ -55,8 +55,25 @@ returns c =
     let args = columns .before .before .before .before .before .args in
     let until = put-as (ap (momentColumn (shownBase (args .base))) (moment .before .quarter-after .ensures .0)) (moment .put-moment-column .ensures .0) in
     put-line
-    (put-then (put-then (put-then (put-then (put-then (put-then (columns .put-columns .ensures .0) (first .put-text .ensures)) until) (second .put-text2 .ensures)) (kind .put-kind .ensures .0)) (precedence .put-precedence .ensures .0)) (c .put-byte .ensures))
-    (omega (arith, columns .put-columns .ensures .1, first .put-text .ensures .ends, moment .put-moment-column .ensures .1, second .put-text2 .ensures .ends, kind .put-kind .ensures .1, precedence .put-precedence .ensures .1, c .put-byte .ensures .ends, c .put-byte .kept .0, c .before .put-byte-arg .given))
+    (put-then
+    (put-then
+    (put-then
+    (put-then (put-then (put-then (columns .put-columns .ensures .0) (first .put-text .ensures)) until) (second .put-text2 .ensures))
+    (kind .put-kind .ensures .0))
+    (precedence .put-precedence .ensures .0))
+    (c .put-byte .ensures))
+    (omega (
+      arith,
+      columns .put-columns .ensures .1,
+      first .put-text .ensures .ends,
+      moment .put-moment-column .ensures .1,
+      second .put-text2 .ensures .ends,
+      kind .put-kind .ensures .1,
+      precedence .put-precedence .ensures .1,
+      c .put-byte .ensures .ends,
+      c .put-byte .kept .0,
+      c .before .put-byte-arg .given,
+    ))
 
 pub touching-row-spec : {M : Type 1} → statement M
 touching-row-spec =

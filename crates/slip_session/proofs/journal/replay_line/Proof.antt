@@ -40,13 +40,23 @@ same-length : tie.Need-same-length
 same-length c = search needs
 
 returns-2 : tie.Need-returns-2
-returns-2 c = replays-grant _ _ (line-slip _ (c .before .before .before .before .before .before .before .before .if1 .left) (c .before .before .before .before .before .before .before .parse .ensures) (c .before .before .before .before .before .slip .given .1)) (c .before .before .grant .result) (c .before .before .grant .ensures)
+returns-2 c =
+    let called = c .before .before in
+    let told = called .before .before .before in
+    let parsed = told .before .before in
+    replays-grant _ _ (line-slip _ (parsed .before .if1 .left) (parsed .parse .ensures) (told .slip .given .1))
+    (called .grant .result) (called .grant .ensures)
 
 same-length-2 : tie.Need-same-length-2
 same-length-2 c = search needs
 
 returns-3 : tie.Need-returns-3
-returns-3 c = replays-revoke _ _ (line-slip _ (c .before .before .before .before .before .before .before .before .if1 .left) (c .before .before .before .before .before .before .before .parse .ensures) (c .before .before .before .before .before .slip2 .given .1)) (c .before .before .revoke .result) (c .before .before .revoke .ensures)
+returns-3 c =
+    let called = c .before .before in
+    let told = called .before .before .before in
+    let parsed = told .before .before in
+    replays-revoke _ _ (line-slip _ (parsed .before .if1 .left) (parsed .parse .ensures) (told .slip2 .given .1))
+    (called .revoke .result) (called .revoke .ensures)
 
 returns-4 : tie.Need-returns-4
 returns-4 c = replays-question _ _ _ (line-slip _ (c .before .before .before .if1 .left) (c .before .before .parse .ensures) (c .enum-told .given .1)) refl

@@ -19,7 +19,9 @@ put-number-requires : tie.Need-put-number-requires
 put-number-requires c κs = omega (arith, few (c .before .before .before .before), c .before .put-text .ensures .ends)
 
 put-byte-requires : tie.Need-put-byte-requires
-put-byte-requires c κs = omega (arith, few (c .before .before .before .before .before .before), c .before .before .before .put-text .ensures .ends, c .before .put-number .ensures .ends)
+put-byte-requires c κs =
+    let a = c .before .before .before .before .before .before in
+    omega (arith, few a, c .before .before .before .put-text .ensures .ends, c .before .put-number .ensures .ends)
 
 returns : tie.Need-returns
 returns c =

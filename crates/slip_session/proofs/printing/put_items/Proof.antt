@@ -49,7 +49,7 @@ loop-again c =
       p .kept .0 ∙ l .inv .2,
       l .inv .3,
       omega (arith, p .ensures .1, l .inv .4),
-      rw (each-more (c .before .before .before .before .before .before .before .before .before .args .numbers .now) (l .i) (omega (arith, h, l .inv .1))) (put-then (l .inv .5) (p .ensures .0)),
+      rw (each-more ns (l .i) (omega (arith, h, l .inv .1))) (put-then (l .inv .5) (p .ensures .0)),
     )
 
 same-length : tie.Need-same-length Inv-loop μ-loop

@@ -22,7 +22,16 @@ put-number-requires : tie.Need-put-number-requires
 put-number-requires c κs =
     let blanks = c .before .before .before in
     let digits = blanks .before .digits-of in
-    omega (arith, blanks .before .before .before .before .pre, digits .ensures .0, digits .ensures .1, blanks .put-blanks .ensures .ends, blanks .put-blanks .kept .0, length-replicate (columnBytes - digits .result) blank)
+    let put = blanks .put-blanks in
+    omega (
+      arith,
+      blanks .before .before .before .before .pre,
+      digits .ensures .0,
+      digits .ensures .1,
+      put .ensures .ends,
+      put .kept .0,
+      length-replicate (columnBytes - digits .result) blank,
+    )
 
 same-length : tie.Need-same-length
 same-length c = search needs

@@ -83,8 +83,12 @@ loop-again : tie.Need-loop-again Inv-loop μ-loop
 loop-again c =
     let l = c .before .before .before .before .before .before .before .loop in
     let i = c .before .before .before .before .before .before .loop-test .taken in
-    let w = c .before .wide .ensures .0 in
-    (search needs, search needs, going-digit _ _ _ (l .value) _ i w (λ e. c .before .before .before .before .if3 .left (sym w ∙ e)) (omega arith) (omega arith) ∙ l .inv .2)
+    let w = c .before .wide .ensures .0 in (
+      search needs,
+      search needs,
+      going-digit _ _ _ (l .value) _ i w
+          (λ e. c .before .before .before .before .if3 .left (sym w ∙ e)) (omega arith) (omega arith) ∙ l .inv .2,
+    )
 
 add-within-2 : tie.Need-add-within-2 Inv-loop μ-loop
 add-within-2 c = search needs
