@@ -7,7 +7,7 @@
 use Prim.Native.Nat.{ℕ, suc, _+_, _<_, _≤_, min}
 use mathlib.Core.Path.{_≡_, sym, _∙_}
 use mathlib.Core.Bool.{true, false}
-use mathlib.Core.List.{List, _∷_, map}
+use mathlib.Core.List.{List, _∷_}
 use native.Mathlib.Numerals.{add-one}
 use native.Mathlib.Omega.{arith}
 use lib.ListN.{length, take, drop, getD, length-map, drop-of-length-le}
@@ -17,12 +17,12 @@ use Rattle.model.specs.declared.Grant.{Grant}
 use Rattle.model.specs.declared.Matched.the-variants.{Equal, Differs}
 use Rattle.model.specs.Grant.{sameGrant}
 use Rattle.pool.specs.Cell.{grantAt}
-use Rattle.queries.specs.Hits.{CellsAt}
+use Rattle.queries.specs.Hits.{CellsAt, grantsAt}
 use Rattle.calls.specs.FileCalls.{firstDifference}
 
 module _ (w cells : List ℕ) {n : ℕ} (at : CellsAt w cells n) where
   abbrev ours : List Grant
-  ours = map (grantAt w) (take n cells)
+  ours = grantsAt w cells n
 
   many : length (take n cells) ≡ n
   many = length-take-le n cells (omega (arith, at .room, at .few))

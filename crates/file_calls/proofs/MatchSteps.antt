@@ -5,7 +5,7 @@
 -- Assumes nothing.
 use Prim.Native.Nat.{ℕ}
 use mathlib.Core.Path.{_≡_, sym, ap, ap₂, _∙_}
-use mathlib.Core.List.{List, [], _∷_, map}
+use mathlib.Core.List.{List, [], _∷_}
 use mathlib.Core.Option.{Option}
 use lib.ListN.{take}
 use Rattle.lists.specs.Sort.{sortBy}
@@ -20,7 +20,6 @@ use Rattle.model.specs.Refusal.{_if_, Step, stepBy, refusing}
 use Rattle.model.proofs.RefusalLaws.{firstFault-append}
 use Rattle.geometry.specs.Region.{Region}
 use Rattle.geometry.specs.SearchRange.{rangeOfDoors}
-use Rattle.pool.specs.Cell.{grantAt}
 use Rattle.pool.specs.Capacity.{poolCapacity}
 use Rattle.grants_file.specs.File.{doorsIn, grantsIn}
 use Rattle.grants_file.specs.Verdict.{fileCauses}
@@ -30,7 +29,7 @@ use Rattle.grants_file.proofs.GrantSteps.{answer-accepted, answer-refused}
 use Rattle.queries.specs.declared.hits.Hits.{Hits}
 use Rattle.queries.specs.declared.hits.Hits.the-variants.{Broken, Found}
 use Rattle.calls.specs.Walks.{doorSearch, isBroken}
-use Rattle.queries.specs.Hits.{HitsFound}
+use Rattle.queries.specs.Hits.{HitsFound, grantsAt}
 use Rattle.calls.specs.Order.{matchOrder}
 use Rattle.calls.specs.FileCalls.{touchingGrants, firstDifference, matchCall}
 use Rattle.queries.proofs.HitsLaws.{broken-search, found-hits}
@@ -75,7 +74,7 @@ module _ (w f : List ℕ) where
             match-broken b = leaves-as (left ∙ first-holds w [] compared _ _ (ap isBroken (broken-search w touching h hit b))) .answered
 
             pub match-done : {found : ℕ} → r ≡ Found found → (cells : List ℕ) {m : Matched} → take found cells ≡ sortBy (numberIn w) (take found h)
-                → m ≡ firstDifference (map (grantAt w) (take found cells)) (grantsIn f)
+                → m ≡ firstDifference (grantsAt w cells found) (grantsIn f)
                 → matchedAnswer m ≡ matchCall w f .answer
             match-done b cells sorted e =
                 let at = found-hits w touching h hit b in

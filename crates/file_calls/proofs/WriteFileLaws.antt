@@ -29,7 +29,7 @@ use Rattle.grants_file.specs.File.{recordBlocks, blocksFor, countIn, chunk, fil
 use Rattle.grants_file.proofs.BlockLaws.{length-headerBlock, length-recordBlock}
 use Rattle.grants_file.proofs.RecordLaws.{length-encodeRecord}
 use Rattle.grants_file.proofs.WriteBlockSteps.{sets-append, started, record-block}
-use Rattle.queries.specs.Hits.{CellsAt}
+use Rattle.queries.specs.Hits.{CellsAt, grantsAt}
 use Rattle.file_calls.specs.WriteKeys.{recordsFile}
 
 -- a record stored is that of any grant equal to the one stored
@@ -39,7 +39,7 @@ record-as b at stored same = stored ∙ ap (λ (x : Grant). sets b at (encodeRec
 module _ (w cells : List ℕ) where
   -- the grants in n cells, from one on
   abbrev pub grantsFrom : ℕ → ℕ → List Grant
-  grantsFrom first n = map (grantAt w) (take n (drop first cells))
+  grantsFrom first n = grantsAt w (drop first cells) n
 
   length-grantsFrom : (first n : ℕ) → first + n ≤ length cells → length (grantsFrom first n) ≡ n
   length-grantsFrom first n h =
@@ -78,7 +78,7 @@ cells-fewer at h = record { room = at .room; few = omega (arith, at .few); cell 
 module _ (w cells : List ℕ) (total : ℕ) where
   -- the grants of the file
   abbrev pub grantsIn : List Grant
-  grantsIn = map (grantAt w) (take total cells)
+  grantsIn = grantsAt w cells total
 
   pub chunk-cells : (i : ℕ) → chunk i grantsIn ≡ grantsFrom w cells (recordsPerBlock * (i - 1)) (countIn total i)
   chunk-cells i =
@@ -178,7 +178,15 @@ module _ (w cells : List ℕ) (total : ℕ) where
       let size : length head ≡ blockBytes = length-headerBlock total doors in
       let long : length (head ++ records) ≡ length head + length records = length-append head records in
       e
-      ∙ rw (s, take-at head (drop blockBytes b) blockBytes size, count, long, drop-append-add head (drop blockBytes b) (length records), drop-drop (length records) blockBytes b, size)
+      ∙ rw (
+        s,
+        take-at head (drop blockBytes b) blockBytes size,
+        count,
+        long,
+        drop-append-add head (drop blockBytes b) (length records),
+        drop-drop (length records) blockBytes b,
+        size,
+      )
 
 -- a block written at the start of what follows a place
 pub part-written : (b : List ℕ) (a : ℕ) (block : List ℕ) {part : List ℕ} → part ≡ block ++ drop blockBytes (take (length b - a) (drop a b))

@@ -5,7 +5,7 @@
 use Prim.Native.Nat.{ℕ, _*_, _<_, _≤_}
 use mathlib.Core.Path.{_≡_, sym, ap, _∙_}
 use mathlib.Core.Bool.{true, false}
-use mathlib.Core.List.{List, [], _∷_, map}
+use mathlib.Core.List.{List, [], _∷_}
 use native.Mathlib.Omega.{arith}
 use lib.ListN.{length, take}
 use borrow.Author.Tests.{lt-ltb, le-ltb}
@@ -19,7 +19,6 @@ use Rattle.model.specs.Refusal.{Step}
 use Rattle.model.specs.Arguments.{reversedDoors}
 use Rattle.geometry.specs.Region.{Region}
 use Rattle.geometry.specs.SearchRange.{rangeOfDoors}
-use Rattle.pool.specs.Cell.{grantAt}
 use Rattle.pool.specs.Capacity.{wrongPool, poolCapacity}
 use Rattle.adt.specs.Search.{Search}
 use Rattle.grants_file.specs.Layout.{blockBytes}
@@ -28,7 +27,7 @@ use Rattle.queries.specs.declared.hits.Hits.{Hits}
 use Rattle.queries.specs.declared.hits.Hits.the-variants.{Broken, Found}
 use Rattle.calls.specs.Walks.{doorSearch, hitsOf, isBroken}
 use Rattle.calls.specs.Causes.{lengthNeeded}
-use Rattle.queries.specs.Hits.{HitsAt, HitsFound}
+use Rattle.queries.specs.Hits.{HitsAt, HitsFound, grantsAt}
 use Rattle.calls.specs.Order.{writeOrder}
 use Rattle.calls.specs.FileCalls.{touchingGrants, writeCall}
 use Rattle.file_calls.specs.WriteKeys.{numberIn}
@@ -103,7 +102,7 @@ module _ (w : List ℕ) (doors : Interval) (lent : List ℕ) where
           write-short short = rw (← exact) (lends-as (short-step right (le-ltb _ _ forward) (at .unbroken) (omega (arith, exact))))
 
           pub write-done : needed ≤ length lent → (cells : List ℕ) {bytes : List ℕ} → take found cells ≡ sortBy (numberIn w) (take found h)
-              → bytes ≡ overwrite (fileOf doors (map (grantAt w) (take found cells))) lent
+              → bytes ≡ overwrite (fileOf doors (grantsAt w cells found)) lent
               → Lends (accepted (needed ∷ [])) bytes (writeCall w doors lent)
           write-done room cells sorted file =
               let grants = touching-sorted w doors h at cells sorted in

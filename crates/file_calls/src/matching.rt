@@ -2,13 +2,10 @@
 // Equal, or the lowest number at which the two differ. Refuses by 1, by the file's faults, then by 9; it writes nothing.
 ghost use mathlib.Core.Path.{_≡_};
 ghost use Prim.Native.Nat.{min};
-ghost use mathlib.Core.List.{map};
-ghost use lib.ListN.{take};
 ghost use Rattle.model.specs.Answer.{matchedAnswer, outcomeAnswer};
-ghost use Rattle.pool.specs.Cell.{grantAt};
 ghost use Rattle.grants_file.specs.File.{grantsIn};
 ghost use Rattle.grants_file.specs.FileSets.{Accepted};
-ghost use Rattle.queries.specs.Hits.{CellsAt};
+ghost use Rattle.queries.specs.Hits.{CellsAt, grantsAt};
 ghost use Rattle.calls.specs.FileCalls.{firstDifference, matchCall};
 use crate::sorted_cells::sort_cells;
 use adt::search::HitCells;
@@ -38,7 +35,7 @@ fn lower(a: u16, b: u16) -> u16
 // Where the grants in the first cells and those of an accepted file, both ascending by number, differ first.
 fn first_difference(pool: &[u16], cells: &HitCells, found: usize, file: &[u8]) -> Matched
     requires { ⌜ CellsAt (now pool) (now cells) found × Accepted (now file) ⌝ }
-    ensures { λ r. ⌜ r ≡ firstDifference (map (grantAt (now (pool .entry))) (take found (now (cells .entry)))) (grantsIn (now (file .entry))) ⌝ }
+    ensures { λ r. ⌜ r ≡ firstDifference (grantsAt (now (pool .entry)) (now (cells .entry)) found) (grantsIn (now (file .entry))) ⌝ }
 {
     let total = total_in(file);
     let mut i: usize = 0;

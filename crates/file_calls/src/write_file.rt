@@ -1,7 +1,7 @@
 // A file of the grants in given cells, written into lent bytes block by block (document 01, "The grants file").
 ghost use mathlib.Core.Path.{_≡_};
-ghost use Prim.Native.Nat.{_+_, _*_, _<_, _≤_};
-ghost use mathlib.Core.List.{_++_, map, flatMap};
+ghost use Prim.Native.Nat.{_+_, _*_, _≤_};
+ghost use mathlib.Core.List.{_++_, flatMap};
 ghost use lib.ListN.{length, take, drop};
 ghost use lib.Seq.{sets};
 ghost use Rattle.lists.specs.Overwrite.{overwrite};
@@ -12,8 +12,8 @@ ghost use Rattle.grants_file.specs.Layout.{recordBytes, blockBytes, recordsPlac
 ghost use Rattle.grants_file.specs.Record.{encodeRecord};
 ghost use Rattle.grants_file.specs.Block.{headerBlock, recordBlock};
 ghost use Rattle.grants_file.specs.File.{blocksFor, chunk, fileOf};
-ghost use Rattle.queries.specs.Hits.{CellsAt};
-ghost use Rattle.file_calls.specs.WriteKeys.{recordsFile};
+ghost use Rattle.queries.specs.Hits.{CellsAt, grantsAt};
+ghost use Rattle.file_calls.specs.WriteKeys.{BlockOfCells, recordsFile};
 use adt::search::HitCells;
 use grants_file::file::blocks_for;
 use grants_file::file::count_in;
@@ -41,7 +41,7 @@ fn write_record(pool: &[u16], cell: usize, block: &mut [u8], at: usize)
 fn write_records(pool: &[u16], cells: &HitCells, first: usize, count: usize, block: &mut [u8])
     requires { ⌜ CellsAt (now pool) (now cells) (first + count) × (count ≤ recordsPerBlock) × (length (now block) ≡ blockBytes) ⌝ }
     ensures { λ r. ⌜ now (block .exit)
-        ≡ sets (now (block .entry)) recordsPlace (flatMap encodeRecord (map (grantAt (now (pool .entry))) (take count (drop first (now (cells .entry)))))) ⌝ }
+        ≡ sets (now (block .entry)) recordsPlace (flatMap encodeRecord (grantsAt (now (pool .entry)) (drop first (now (cells .entry))) count)) ⌝ }
 {
     let mut i: usize = 0;
     while i < count {
@@ -53,8 +53,8 @@ fn write_records(pool: &[u16], cells: &HitCells, first: usize, count: usize, blo
 
 // A block of records, of a file of the grants in the first `total` cells.
 fn write_block(pool: &[u16], cells: &HitCells, total: usize, number: usize, block: &mut [u8])
-    requires { ⌜ CellsAt (now pool) (now cells) total × (0 < number) × (number < blocksFor total) × (length (now block) ≡ blockBytes) ⌝ }
-    ensures { λ r. ⌜ now (block .exit) ≡ recordBlock number (chunk number (map (grantAt (now (pool .entry))) (take total (now (cells .entry))))) ⌝ }
+    requires { ⌜ BlockOfCells (now pool) (now cells) total number × (length (now block) ≡ blockBytes) ⌝ }
+    ensures { λ r. ⌜ now (block .exit) ≡ recordBlock number (chunk number (grantsAt (now (pool .entry)) (now (cells .entry)) total)) ⌝ }
 {
     let count = count_in(total, number);
     start_block(block, number as u16, count as u16);
@@ -64,8 +64,8 @@ fn write_block(pool: &[u16], cells: &HitCells, total: usize, number: usize, bloc
 
 // The same at the start of longer bytes.
 fn write_first(pool: &[u16], cells: &HitCells, total: usize, number: usize, bytes: &mut [u8])
-    requires { ⌜ CellsAt (now pool) (now cells) total × (0 < number) × (number < blocksFor total) × (blockBytes ≤ length (now bytes)) ⌝ }
-    ensures { λ r. ⌜ now (bytes .exit) ≡ recordBlock number (chunk number (map (grantAt (now (pool .entry))) (take total (now (cells .entry)))))
+    requires { ⌜ BlockOfCells (now pool) (now cells) total number × (blockBytes ≤ length (now bytes)) ⌝ }
+    ensures { λ r. ⌜ now (bytes .exit) ≡ recordBlock number (chunk number (grantsAt (now (pool .entry)) (now (cells .entry)) total))
         ++ drop blockBytes (now (bytes .entry)) ⌝ }
 {
     write_block(pool, cells, total, number, &mut bytes[..BLOCK_BYTES]);
@@ -73,8 +73,11 @@ fn write_first(pool: &[u16], cells: &HitCells, total: usize, number: usize, byte
 
 // The same at its place in the file.
 fn write_at(pool: &[u16], cells: &HitCells, total: usize, number: usize, bytes: &mut [u8])
-    requires { ⌜ CellsAt (now pool) (now cells) total × (0 < number) × (number < blocksFor total) × (blockBytes * blocksFor total ≤ length (now bytes)) ⌝ }
-    ensures { λ r. ⌜ now (bytes .exit) ≡ take (blockBytes * number) (now (bytes .entry)) ++ (recordBlock number (chunk number (map (grantAt (now (pool .entry))) (take total (now (cells .entry))))) ++ drop (blockBytes * number + blockBytes) (now (bytes .entry))) ⌝ }
+    requires { ⌜ BlockOfCells (now pool) (now cells) total number × (blockBytes * blocksFor total ≤ length (now bytes)) ⌝ }
+    ensures { λ r. ⌜ now (bytes .exit)
+        ≡ take (blockBytes * number) (now (bytes .entry))
+        ++ (recordBlock number (chunk number (grantsAt (now (pool .entry)) (now (cells .entry)) total))
+        ++ drop (blockBytes * number + blockBytes) (now (bytes .entry))) ⌝ }
 {
     write_first(
         pool,
@@ -89,7 +92,7 @@ fn write_at(pool: &[u16], cells: &HitCells, total: usize, number: usize, bytes: 
 fn write_blocks(pool: &[u16], cells: &HitCells, total: usize, blocks: usize, bytes: &mut [u8])
     requires { ⌜ CellsAt (now pool) (now cells) total × (blocks ≡ blocksFor total) × (blockBytes * blocksFor total ≤ length (now bytes)) ⌝ }
     ensures { λ r. ⌜ now (bytes .exit)
-        ≡ overwrite (take blockBytes (now (bytes .entry)) ++ recordsFile (map (grantAt (now (pool .entry))) (take total (now (cells .entry)))) total)
+        ≡ overwrite (take blockBytes (now (bytes .entry)) ++ recordsFile (grantsAt (now (pool .entry)) (now (cells .entry)) total) total)
         (now (bytes .entry)) ⌝ }
 {
     let mut i: usize = 1;
@@ -118,7 +121,7 @@ pub fn write_file(
 )
     requires { ⌜ CellsAt (now pool) (now cells) total × (blockBytes * blocksFor total ≤ length (now bytes)) ⌝ }
     ensures { λ r. ⌜ now (bytes .exit)
-        ≡ overwrite (fileOf (record { from = from; to = to }) (map (grantAt (now (pool .entry))) (take total (now (cells .entry))))) (now (bytes .entry)) ⌝ }
+        ≡ overwrite (fileOf (record { from = from; to = to }) (grantsAt (now (pool .entry)) (now (cells .entry)) total)) (now (bytes .entry)) ⌝ }
 {
     write_front(total, from, to, bytes);
     write_blocks(pool, cells, total, blocks_for(total), bytes);

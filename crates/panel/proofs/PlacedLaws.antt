@@ -12,7 +12,7 @@ use lib.Seq.{getD-take, length-take-le}
 use Rattle.lists.specs.Sort.{sortBy}
 use Rattle.model.specs.declared.Grant.{Grant}
 use Rattle.pool.specs.Cell.{grantAt}
-use Rattle.queries.specs.Hits.{CellsAt}
+use Rattle.queries.specs.Hits.{CellsAt, grantsAt}
 use Rattle.file_calls.specs.WriteKeys.{numberIn}
 use Rattle.file_calls.proofs.SortedCellLaws.{grants-sorted}
 use Rattle.precedence.specs.declared.Precedence.{Precedence}
@@ -36,7 +36,7 @@ within all f (k ∷ ks) (suc i) lt = within all f ks i (omega arith)
 
 module _ (w hits : List ℕ) {n : ℕ} (cells : CellsAt w hits n) (i : ℕ) where
   abbrev grants : List Grant
-  grants = map (grantAt w) (take n hits)
+  grants = grantsAt w hits n
 
   many : length (take n hits) ≡ n
   many = length-take-le n hits (omega (arith, cells .room, cells .few))
@@ -53,6 +53,6 @@ module _ (w hits : List ℕ) {n : ℕ} (cells : CellsAt w hits n) (i : ℕ) wher
       whole ∙ sym row ∙ sym (within grants (grantAt w) (take n hits) i (omega (arith, many)))
 
 pub placed-sorted : (w hits cells : List ℕ) (n i : ℕ) {t : Touching} → take n cells ≡ sortBy (numberIn w) (take n hits)
-    → t ≡ placed (map (grantAt w) (take n cells)) i → t ≡ placed (sortBy (λ g. g .number) (map (grantAt w) (take n hits))) i
+    → t ≡ placed (grantsAt w cells n) i → t ≡ placed (sortBy (λ g. g .number) (grantsAt w hits n)) i
 placed-sorted w hits cells n i sorted e =
     e ∙ ap (λ (gs : List Grant). placed gs i) (ap (map (grantAt w)) sorted ∙ grants-sorted w (take n hits))

@@ -5,7 +5,6 @@
 use Prim.Native.Nat.{ℕ}
 use mathlib.Core.Path.{_≡_, sym, ap, _∙_}
 use mathlib.Core.List.{List, map}
-use lib.ListN.{take}
 use Rattle.lists.specs.Sort.{sortBy}
 use Rattle.model.specs.declared.Box.{Box}
 use Rattle.model.specs.declared.Grant.{Grant}
@@ -17,7 +16,7 @@ use Rattle.pool.specs.Capacity.{poolCapacity}
 use Rattle.pool.specs.Cell.{grantAt}
 use Rattle.queries.specs.declared.hits.Hits.{Hits}
 use Rattle.queries.specs.declared.hits.Hits.the-variants.{Broken, Found}
-use Rattle.queries.specs.Hits.{HitsFound}
+use Rattle.queries.specs.Hits.{HitsFound, grantsAt}
 use Rattle.calls.specs.Order.{lookOrder}
 use Rattle.queries.proofs.HitsLaws.{broken-search, found-hits}
 use Rattle.calls.proofs.RefusalSteps.{pool-refused, pool-taken}
@@ -39,7 +38,7 @@ module _ (w : List ℕ) (door quarter i : ℕ) {c : ℕ} (e : c ≡ poolCapacity
       unfolding touchingAt lookOrder firstFault
       touching-broken met = rw (pool-taken w e n .right, broken-search w range h f met)
 
-      pub touching-done : {found : ℕ} → r ≡ Found found → {t : Touching} → t ≡ placed (sortBy (λ g. g .number) (map (grantAt w) (take found h))) i
+      pub touching-done : {found : ℕ} → r ≡ Found found → {t : Touching} → t ≡ placed (sortBy (λ g. g .number) (grantsAt w h found)) i
           → t ≡ touchingAt w door quarter i
       unfolding touchingAt lookOrder firstFault
       touching-done unmet {t} done =

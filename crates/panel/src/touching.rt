@@ -1,11 +1,8 @@
 // Who may open this door at this quarter: the grants that touch both, ascending by number, a grant at a time, each with how far it stands
 // among them (specs/Touching). Refuses by 1, then 9, as decide does. Searches afresh for each, so that nothing is kept between two rows.
 ghost use mathlib.Core.Path.{_≡_};
-ghost use mathlib.Core.List.{map};
-ghost use lib.ListN.{take};
 ghost use Rattle.lists.specs.Sort.{sortBy};
-ghost use Rattle.pool.specs.Cell.{grantAt};
-ghost use Rattle.queries.specs.Hits.{CellsAt};
+ghost use Rattle.queries.specs.Hits.{CellsAt, grantsAt};
 ghost use Rattle.panel.specs.Touching.{doorBox, placed, touchingAt};
 use adt::search::HitCells;
 use file_calls::sorted_cells::sort_cells;
@@ -49,7 +46,7 @@ fn door_box(door: u16, quarter: u16) -> Box
 // The grant in the i-th of the hits' cells, and how far it stands among all of them.
 fn placed(pool: &[u16], hits: &HitCells, found: usize, i: usize) -> Touching
     requires { ⌜ CellsAt (now pool) (now hits) found ⌝ }
-    ensures { λ r. ⌜ r ≡ placed (map (grantAt (now (pool .entry))) (take found (now (hits .entry)))) i ⌝ }
+    ensures { λ r. ⌜ r ≡ placed (grantsAt (now (pool .entry)) (now (hits .entry)) found) i ⌝ }
 {
     if found <= i {
         return Touching::End;
@@ -62,7 +59,7 @@ fn placed(pool: &[u16], hits: &HitCells, found: usize, i: usize) -> Touching
 // The same, of the hits' cells in the order of their grants' numbers.
 fn sorted_placed(pool: &[u16], hits: &HitCells, found: usize, i: usize) -> Touching
     requires { ⌜ CellsAt (now pool) (now hits) found ⌝ }
-    ensures { λ r. ⌜ r ≡ placed (sortBy (λ g. g .number) (map (grantAt (now (pool .entry))) (take found (now (hits .entry))))) i ⌝ }
+    ensures { λ r. ⌜ r ≡ placed (sortBy (λ g. g .number) (grantsAt (now (pool .entry)) (now (hits .entry)) found)) i ⌝ }
 {
     let mut sorted = [0u16; MAX_CAPACITY];
     sort_cells(pool, hits, found, &mut sorted);

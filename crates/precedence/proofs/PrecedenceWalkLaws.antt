@@ -56,8 +56,12 @@ share-iff g h =
       (λ s.
           let p = s .first in
           let q = s .second in
-          rw (le-ltb (g .bounds .«staff_to») (g .bounds .«staff_from») (omega (arith, p .starts, p .ends)), le-ltb (h .bounds .«staff_to») (h .bounds .«staff_from») (omega (arith, q .starts, q .ends)))
-          (le-both (g .bounds .«staff_from») (h .bounds .«staff_to») (h .bounds .«staff_from») (g .bounds .«staff_to») (omega (arith, p .starts, q .ends)) (omega (arith, q .starts, p .ends)))),
+          rw (
+            le-ltb (g .bounds .«staff_to») (g .bounds .«staff_from») (omega (arith, p .starts, p .ends)),
+            le-ltb (h .bounds .«staff_to») (h .bounds .«staff_from») (omega (arith, q .starts, q .ends)),
+          )
+          (le-both (g .bounds .«staff_from») (h .bounds .«staff_to») (h .bounds .«staff_from») (g .bounds .«staff_to»)
+          (omega (arith, p .starts, q .ends)) (omega (arith, q .starts, p .ends)))),
     )
 
 pub someOverridden-iff : (gs : List Grant) (g : Grant) → (any (overridesSome g) gs ≡ true) ↔ SomeOverridden gs g

@@ -1,12 +1,9 @@
 // How far a grant stands (specs/Precedence): whole, partly, or nowhere because grants that outrank it cover all its staff.
 // The grants are those that touch a door and a quarter: the pool's cells that a search left at the start of its list of hits, as decide
-// reads them. The panel's screen has them from index::hits::find_hits, whose contract gives what `precedence_among` requires.
+// reads them. The panel's screen has them from queries::hits::find_hits, whose contract gives what `precedence_among` requires.
 ghost use mathlib.Core.Path.{_≡_};
-ghost use mathlib.Core.List.{map};
-ghost use lib.ListN.{take};
 ghost use Rattle.lists.specs.Tests.{any};
-ghost use Rattle.pool.specs.Cell.{grantAt};
-ghost use Rattle.queries.specs.Hits.{CellsAt};
+ghost use Rattle.queries.specs.Hits.{CellsAt, grantsAt};
 ghost use Rattle.precedence.specs.Precedence.{overrides, precedence};
 ghost use Rattle.precedence.specs.PrecedenceWalk.{shareStaff, overridesSome, further, reach};
 use crate::Precedence;
@@ -73,7 +70,7 @@ fn further(g: Grant, staff: usize, best: usize, h: Grant) -> usize
 // Whether one of the hits decides over `g` for any staff number of `g`.
 fn overridden_some(pool: &[u16], hits: &HitCells, found: usize, g: Grant) -> bool
     requires { ⌜ CellsAt (now pool) (now hits) found ⌝ }
-    ensures { λ r. ⌜ r ≡ any (overridesSome g) (map (grantAt (now (pool .entry))) (take found (now (hits .entry)))) ⌝ }
+    ensures { λ r. ⌜ r ≡ any (overridesSome g) (grantsAt (now (pool .entry)) (now (hits .entry)) found) ⌝ }
 {
     let mut i: usize = 0;
     while i < found {
@@ -88,7 +85,7 @@ fn overridden_some(pool: &[u16], hits: &HitCells, found: usize, g: Grant) -> boo
 // The first staff number, from one on, that no hit holds of those that override `g` at that one; the number itself where none does.
 fn reach(pool: &[u16], hits: &HitCells, found: usize, g: Grant, staff: usize) -> usize
     requires { ⌜ CellsAt (now pool) (now hits) found ⌝ }
-    ensures { λ r. ⌜ r ≡ reach g staff staff (map (grantAt (now (pool .entry))) (take found (now (hits .entry)))) ⌝ }
+    ensures { λ r. ⌜ r ≡ reach g staff staff (grantsAt (now (pool .entry)) (now (hits .entry)) found) ⌝ }
 {
     let mut best = staff;
     let mut i: usize = 0;
@@ -102,7 +99,7 @@ fn reach(pool: &[u16], hits: &HitCells, found: usize, g: Grant, staff: usize) ->
 // How far `g` stands among the hits. Goes along the staff numbers of `g` by whole grants, so the turns are no more than the hits.
 pub fn precedence_among(pool: &[u16], hits: &HitCells, found: usize, g: Grant) -> Precedence
     requires { ⌜ CellsAt (now pool) (now hits) found ⌝ }
-    ensures { λ r. ⌜ r ≡ precedence (map (grantAt (now (pool .entry))) (take found (now (hits .entry)))) g ⌝ }
+    ensures { λ r. ⌜ r ≡ precedence (grantsAt (now (pool .entry)) (now (hits .entry)) found) g ⌝ }
 {
     if !overridden_some(pool, hits, found, g) {
         return Precedence::Whole;

@@ -16,7 +16,7 @@ use Rattle.model.specs.declared.Grant.{Grant}
 use Rattle.model.specs.declared.Decision.the-variants as decision
 use Rattle.model.specs.Decide.{outranks, decidingOf, decisionOf, decideAmong}
 use Rattle.pool.specs.Cell.{grantAt}
-use Rattle.queries.specs.Hits.{CellsAt}
+use Rattle.queries.specs.Hits.{CellsAt, grantsAt}
 
 abbrev pub grantsFrom : List ℕ → List ℕ → ℕ → ℕ → List Grant
 grantsFrom w hits n i = map (grantAt w) (drop i (take n hits))
@@ -32,7 +32,7 @@ module _ (w hits : List ℕ) {n : ℕ} (cells : CellsAt w hits n) where
   next : (i : ℕ) → i < n → grantsFrom w hits n i ≡ grantAt w (getD hits i 0) ∷ grantsFrom w hits n (suc i)
   next i lt = rw (drop-cons (take n hits) i 0 (omega (arith, many)), getD-take n hits i 0 lt)
 
-  pub decides-none : n ≡ 0 → decision.None ≡ decideAmong (map (grantAt w) (take n hits))
+  pub decides-none : n ≡ 0 → decision.None ≡ decideAmong (grantsAt w hits n)
   unfolding decideAmong
   decides-none z = rw z
 
@@ -53,9 +53,9 @@ module _ (w hits : List ℕ) {n : ℕ} (cells : CellsAt w hits n) where
 
   pub decides-end : (i : ℕ) → i ≡ n → ¬ (n ≡ 0) → {k : ℕ} {g : Grant} → k ≡ getD hits 0 0 → g ≡ grantAt w k → (d : Grant)
       → decidingOf d (grantsFrom w hits n i) ≡ decidingOf g (grantsFrom w hits n 1)
-      → decisionOf (d .kind) d ≡ decideAmong (map (grantAt w) (take n hits))
+      → decisionOf (d .kind) d ≡ decideAmong (grantsAt w hits n)
   unfolding decideAmong
   decides-end i end some {k} {g} at e d before =
       let same : d ≡ decidingOf g (grantsFrom w hits n 1) = sym (none-after d) ∙ ap (λ (j : ℕ). decidingOf d (grantsFrom w hits n j)) (sym end) ∙ before in
-      let all : g ∷ grantsFrom w hits n 1 ≡ map (grantAt w) (take n hits) = rw (e, at) (sym (next 0 (omega arith))) in
+      let all : g ∷ grantsFrom w hits n 1 ≡ grantsAt w hits n = rw (e, at) (sym (next 0 (omega arith))) in
       ap (λ (x : Grant). decisionOf (x .kind) x) same ∙ ap decideAmong all

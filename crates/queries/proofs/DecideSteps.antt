@@ -4,7 +4,6 @@
 use Prim.Native.Nat.{ℕ}
 use mathlib.Core.Path.{_≡_, sym, ap, _∙_}
 use mathlib.Core.List.{List, map}
-use lib.ListN.{take}
 use Rattle.model.specs.declared.Box.{Box}
 use Rattle.model.specs.declared.Decision.{Decision}
 use Rattle.model.specs.declared.Fault.the-variants.{BadPool, BrokenLinks}
@@ -17,7 +16,7 @@ use Rattle.pool.specs.Capacity.{poolCapacity}
 use Rattle.pool.specs.Cell.{grantAt}
 use Rattle.queries.specs.declared.hits.Hits.{Hits}
 use Rattle.queries.specs.declared.hits.Hits.the-variants.{Broken, Found}
-use Rattle.queries.specs.Hits.{HitsFound}
+use Rattle.queries.specs.Hits.{HitsFound, grantsAt}
 use Rattle.calls.specs.Calls.{decideCall}
 use Rattle.queries.proofs.HitsLaws.{found-hits}
 use Rattle.queries.proofs.LookSteps.{look-bad, look-broken, look-done}
@@ -39,7 +38,7 @@ module _ (w : List ℕ) (staff door quarter : ℕ) {c : ℕ} (e : c ≡ poolCapa
       unfolding decideCall
       decide-broken i = look-broken w range _ e n asked h f i
 
-      pub decide-done : {found : ℕ} → r ≡ Found found → {d : Decision} → d ≡ decideAmong (map (grantAt w) (take found h))
+      pub decide-done : {found : ℕ} → r ≡ Found found → {d : Decision} → d ≡ decideAmong (grantsAt w h found)
           → decisionAnswer d ≡ decideCall w staff door quarter .answer
       unfolding decideCall
       decide-done i decided =

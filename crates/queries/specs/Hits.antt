@@ -2,6 +2,7 @@
 --   Searchable w c q hits  what the search asks: a pool of c cells, a range of that form, and room for a hit of every cell
 --   CellsAt w hits n       the first n of the list are cells of the pool w
 --   HitsAt w q hits n      they are the hits of the search for the range q
+--   grantsAt w hits n      the grants in those cells
 --   numbersAt w ks         the numbers of the grants in the cells ks
 --   HitsFound w q hits r   r says of that search that it is broken, or how many hits are at the start of the list
 -- The contracts of inner functions cite these; no claim does. Assumes nothing: these are definitions.
@@ -11,6 +12,7 @@ use mathlib.Core.Bool.{false}
 use mathlib.Core.List.{List, map}
 use lib.ListN.{length, take, getD}
 use Rattle.model.specs.Limits.{maxGrants}
+use Rattle.model.specs.declared.Grant.{Grant}
 use Rattle.geometry.specs.Region.{Region}
 use Rattle.geometry.specs.SearchRange.{OneSided}
 use Rattle.pool.specs.Capacity.{Sized, InPool, capacityOf}
@@ -31,6 +33,9 @@ pub record CellsAt (w hits : List ℕ) (n : ℕ) : Type 0 where
   pub room : length hits ≡ maxGrants
   pub few : n ≤ maxGrants
   pub cell : (i : ℕ) → i < n → InPool w (getD hits i 0)
+
+abbrev pub grantsAt : List ℕ → List ℕ → ℕ → List Grant
+grantsAt w hits n = map (grantAt w) (take n hits)
 
 abbrev pub numbersAt : List ℕ → List ℕ → List ℕ
 numbersAt w ks = map (λ g. g .number) (map (grantAt w) ks)

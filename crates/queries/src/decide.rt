@@ -1,11 +1,8 @@
 // decide: opens or barred with the whole grant that decides, or none (document 01, "The plain book"). Refuses by 1, then 9.
 ghost use mathlib.Core.Path.{_≡_};
-ghost use mathlib.Core.List.{map};
-ghost use lib.ListN.{take};
 ghost use Rattle.model.specs.Answer.{decisionAnswer};
 ghost use Rattle.model.specs.Decide.{decideAmong};
-ghost use Rattle.pool.specs.Cell.{grantAt};
-ghost use Rattle.queries.specs.Hits.{CellsAt};
+ghost use Rattle.queries.specs.Hits.{CellsAt, grantsAt};
 ghost use Rattle.calls.specs.Calls.{decideCall};
 use crate::hits::Hits;
 use crate::hits::find_hits;
@@ -24,7 +21,7 @@ use pool::layout::wide;
 // What the grants in the first cells of the hits decide, in one pass: a later one takes the place only of one that it outranks.
 fn decide_among(pool: &[u16], hits: &HitCells, found: usize) -> Decision
     requires { ⌜ CellsAt (now pool) (now hits) found ⌝ }
-    ensures { λ r. ⌜ r ≡ decideAmong (map (grantAt (now (pool .entry))) (take found (now (hits .entry)))) ⌝ }
+    ensures { λ r. ⌜ r ≡ decideAmong (grantsAt (now (pool .entry)) (now (hits .entry)) found) ⌝ }
 {
     if found == 0 {
         return Decision::None;

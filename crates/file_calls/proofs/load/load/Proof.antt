@@ -40,14 +40,17 @@ returns-2 c =
     let judged = c .before .before in
     let some = judged .before in
     let start = some .before .before .before .before .before in
-    load-file (start .args .pool .now) _ (some .before .length-capacity .ensures) (some .if1 .left) (judged .judge .ensures) (c .enum-told2 .given .0 .0) (c .enum-told2 .given .1)
+    load-file (start .args .pool .now) _ (some .before .length-capacity .ensures) (some .if1 .left) (judged .judge .ensures)
+    (c .enum-told2 .given .0 .0) (c .enum-told2 .given .1)
 
 total-in-requires : tie.Need-total-in-requires
 total-in-requires c κs =
     let judged = c .before .before in
     let some = judged .before in
     let start = some .before .before .before .before .before in
-    accepted-whole _ (load-accepted (start .args .pool .now) _ (some .before .length-capacity .ensures) (some .if1 .left) (judged .judge .ensures) (c .enum-told .given .1)) .some
+    let accepted =
+    load-accepted (start .args .pool .now) _ (some .before .length-capacity .ensures) (some .if1 .left) (judged .judge .ensures) (c .enum-told .given .1) in
+    accepted-whole _ accepted .some
 
 same-length-3 : tie.Need-same-length-3
 same-length-3 c = search needs
@@ -58,7 +61,8 @@ returns-3 c =
     let judged = told .before .before in
     let some = judged .before in
     let start = some .before .before .before .before .before in
-    load-full (start .args .pool .now) _ (some .before .length-capacity .ensures) (some .if1 .left) (judged .judge .ensures) (told .enum-told .given .1) (c .before .total-in .ensures .0) (c .if2 .taken)
+    load-full (start .args .pool .now) _ (some .before .length-capacity .ensures) (some .if1 .left) (judged .judge .ensures) (told .enum-told .given .1)
+    (c .before .total-in .ensures .0) (c .if2 .taken)
 
 make-fresh-requires : tie.Need-make-fresh-requires
 make-fresh-requires c κs =
@@ -95,7 +99,8 @@ returns-4 c =
     let some = judged .before in
     let known = some .before .before .before in
     let start = known .before .before in
-    load-done (start .args .pool .now) _ (some .before .length-capacity .ensures) (some .if1 .left) (judged .judge .ensures) (told .enum-told .given .1) (counted .total-in .ensures .0) (few .if2 .left)
+    load-done (start .args .pool .now) _ (some .before .length-capacity .ensures) (some .if1 .left) (judged .judge .ensures) (told .enum-told .given .1)
+    (counted .total-in .ensures .0) (few .if2 .left)
     (λ i. omega (arith, known .shared-slice-known .given i))
     (added .add-all .ensures ∙ ap (λ (w : List ℕ). addedAll w (grantsIn (start .args .file .now))) (made .make-fresh .ensures))
 

@@ -1,14 +1,13 @@
 -- `matching::first_difference` meets its contract. The invariant: what is left on both sides differs first where all does. Assumes nothing.
 use Prim.Native.Nat.{_-_}
 use mathlib.Core.Path.{_≡_, refl, sym, _∙_}
-use mathlib.Core.List.{map}
 use native.Mathlib.Omega.{arith}
-use lib.ListN.{take, drop}
-use Rattle.pool.specs.Cell.{grantAt}
+use lib.ListN.{drop}
 use Rattle.grants_file.specs.File.{totalIn, grantsIn}
 use Rattle.grants_file.proofs.FileLaws.{length-grantsIn}
 use Rattle.grants_file.proofs.GrantSteps.{accepted-whole}
 use Rattle.calls.specs.FileCalls.{firstDifference}
+use Rattle.queries.specs.Hits.{grantsAt}
 use Rattle.queries.proofs.HitsLaws.{cell-hit}
 use Rattle.file_calls.proofs.DifferenceLaws.{length-ours, ours-here, both-end, theirs-left, ours-left, unequal-here, equal-here}
 use borrow.Author.Needs.{needs}
@@ -17,7 +16,9 @@ use Rattle.file_calls.proofs.matching.first_difference.Statement.{state
 use Rattle.file_calls.proofs.matching.first_difference.Tie as tie
 
 abbrev Inv-loop : tie.InvT-loop
-Inv-loop pool cells found file total i₀ i = (total ≡ totalIn file) × (firstDifference (drop i (map (grantAt pool) (take found cells))) (drop i (grantsIn file)) ≡ firstDifference (map (grantAt pool) (take found cells)) (grantsIn file))
+Inv-loop pool cells found file total i₀ i =
+    let ours = grantsAt pool cells found in
+    (total ≡ totalIn file) × (firstDifference (drop i ours) (drop i (grantsIn file)) ≡ firstDifference ours (grantsIn file))
 
 abbrev μ-loop : tie.MeasureT-loop
 μ-loop pool cells found file total i₀ i = found - i
@@ -70,13 +71,15 @@ loop-again c =
     let at = ours .before .before .before .before in
     let start = at .before .before .before .before in
     let here = ours-here _ _ (start .pre .0) (omega arith) (ours .before .wide .ensures .0) (ours .grant-at .ensures) in
-    (at .loop .inv .0, sym (equal-here _ _ (at .loop .i) here (theirs .grant-in2 .ensures) (sym (same .same-grant .ensures) ∙ not-false _ (c .if4 .left))) ∙ at .loop .inv .1)
+    let equal = sym (same .same-grant .ensures) ∙ not-false _ (c .if4 .left) in
+    (at .loop .inv .0, sym (equal-here _ _ (at .loop .i) here (theirs .grant-in2 .ensures) equal) ∙ at .loop .inv .1)
 
 returns : tie.Need-returns Inv-loop μ-loop
 returns c =
     let at = c .before .before in
     let start = at .before .before .before .before in
-    both-end _ _ (at .loop .i) (omega (arith, length-ours _ _ (start .pre .0))) (omega (arith, length-grantsIn (start .args .file .now), at .loop .inv .0)) ∙ at .loop .inv .1
+    both-end _ _ (at .loop .i) (omega (arith, length-ours _ _ (start .pre .0))) (omega (arith, length-grantsIn (start .args .file .now), at .loop .inv .0))
+    ∙ at .loop .inv .1
 
 returns-2 : tie.Need-returns-2 Inv-loop μ-loop
 returns-2 c =
@@ -100,7 +103,8 @@ returns-4 c =
     let at = ours .before .before .before .before in
     let start = at .before .before .before .before in
     let here = ours-here _ _ (start .pre .0) (omega arith) (ours .before .wide .ensures .0) (ours .grant-at .ensures) in
-    unequal-here _ _ (at .loop .i) here (theirs .grant-in2 .ensures) (sym (same .same-grant .ensures) ∙ not-true _ (c .before .if4 .taken)) (c .lower .ensures) ∙ at .loop .inv .1
+    let unequal = sym (same .same-grant .ensures) ∙ not-true _ (c .before .if4 .taken) in
+    unequal-here _ _ (at .loop .i) here (theirs .grant-in2 .ensures) unequal (c .lower .ensures) ∙ at .loop .inv .1
 
 pub first-difference-spec : {M : Type 1} → statement M
 first-difference-spec =

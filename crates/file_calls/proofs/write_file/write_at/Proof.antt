@@ -7,19 +7,22 @@ use Rattle.file_calls.proofs.write_file.write_at.Statement.{statement}
 use Rattle.file_calls.proofs.write_file.write_at.Tie as tie
 
 mul-write-first : tie.Need-mul-write-first
-mul-write-first c = search needs
+mul-write-first c = let start = c .before .before in omega (arith, start .pre .0 .below, start .pre .0 .readable .few)
 
 sub-write-first : tie.Need-sub-write-first
-sub-write-first c = search needs
+sub-write-first c = let start = c .before .before in omega (arith, start .pre .0 .below, start .pre .1)
 
 part-write-first-start : tie.Need-part-write-first-start
-part-write-first-start c = search needs
+part-write-first-start c = let start = c .before .before in omega (arith, start .pre .0 .below, start .pre .1)
 
 part-write-first-end : tie.Need-part-write-first-end
 part-write-first-end c = search needs
 
 write-first-requires : tie.Need-write-first-requires
-write-first-requires c κs = let start = c .before .before .before in (start .pre .0, start .pre .1, start .pre .2, omega (arith, length-rest (start .args .bytes .now) (512 * start .args .number), start .pre .2, start .pre .3))
+write-first-requires c κs =
+    let start = c .before .before .before in
+    let room = length-rest (start .args .bytes .now) (512 * start .args .number) in
+    (start .pre .0, omega (arith, room, start .pre .0 .below, start .pre .1))
 
 same-length : tie.Need-same-length
 same-length c = search needs

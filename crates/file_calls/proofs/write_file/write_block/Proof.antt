@@ -7,7 +7,9 @@ use Rattle.file_calls.proofs.write_file.write_block.Statement.{statemen
 use Rattle.file_calls.proofs.write_file.write_block.Tie as tie
 
 count-in-requires : tie.Need-count-in-requires
-count-in-requires c κs = let start = c .before .before in (start .pre .1, omega (arith, start .pre .2, start .pre .0 .few))
+count-in-requires c κs =
+    let at = c .before .before .pre .0 in
+    (at .positive, omega (arith, at .below, at .readable .few))
 
 cast-start-block : tie.Need-cast-start-block
 cast-start-block c = search needs
@@ -29,7 +31,11 @@ write-records-requires c κs =
     let begun = c .before .before .before in
     let counted = begun .before .before in
     let start = counted .before .before .before in
-    (cells-fewer (start .pre .0) (omega (arith, counted .count-in .ensures .0, start .pre .1, start .pre .2)), counted .count-in .ensures .1, begun .start-block .kept .0 ∙ start .pre .3)
+    let at = start .pre .0 in (
+      cells-fewer (at .readable) (omega (arith, counted .count-in .ensures .0, at .positive, at .below)),
+      counted .count-in .ensures .1,
+      begun .start-block .kept .0 ∙ start .pre .1,
+    )
 
 mul-seal : tie.Need-mul-seal
 mul-seal c = search needs
@@ -51,7 +57,7 @@ returns c =
     let counted = begun .before .before in
     let start = counted .before .before .before in
     block-written (start .args .pool .now) (start .args .cells .now) (start .args .total) (start .args .block .now) (start .args .number) _
-    (start .pre .0) (start .pre .1) (start .pre .2) (start .pre .3) (counted .count-in .ensures .0) (begun .start-block .ensures)
+    (start .pre .0 .readable) (start .pre .0 .positive) (start .pre .0 .below) (start .pre .1) (counted .count-in .ensures .0) (begun .start-block .ensures)
     (wrote .write-records .ensures) (shut .seal .ensures)
 
 pub write-block-spec : {M : Type 1} → statement M

@@ -17,13 +17,22 @@ abbrev μ-loop : tie.MeasureT-loop
 μ-loop pool cells total blocks bytes₀ i₀ bytes i = blocks - i
 
 loop-holds : tie.Need-loop-holds Inv-loop μ-loop
-loop-holds c = let start = c .before .before in (omega arith, omega (arith, start .pre .1), refl, blocks-none (start .args .pool .now) (start .args .cells .now) (start .args .total) (start .args .bytes .now) (omega (arith, start .pre .2)))
+loop-holds c =
+    let start = c .before .before in
+    let a = start .args in (
+      omega arith,
+      omega (arith, start .pre .1),
+      refl,
+      blocks-none (a .pool .now) (a .cells .now) (a .total) (a .bytes .now) (omega (arith, start .pre .2)),
+    )
 
 write-at-requires : tie.Need-write-at-requires Inv-loop μ-loop
 write-at-requires c κs =
     let at = c .before .before in
-    let start = at .before .before .before in
-    (start .pre .0, at .loop .inv .0, omega (arith, start .pre .1), omega (arith, at .loop .inv .2, start .pre .2))
+    let start = at .before .before .before in (
+      record { readable = start .pre .0; positive = at .loop .inv .0; below = omega (arith, start .pre .1) },
+      omega (arith, at .loop .inv .2, start .pre .2),
+    )
 
 add-i : tie.Need-add-i Inv-loop μ-loop
 add-i c = search needs
@@ -37,7 +46,13 @@ loop-again c =
     let at = wrote .before .before .before in
     let start = at .before .before .before in
     let l = at .loop in
-    (omega arith, omega arith, wrote .write-at .kept .1 .1 .1 .1 .0 ∙ l .inv .2, blocks-turn (start .args .pool .now) (start .args .cells .now) (start .args .total) (start .args .bytes .now) (l .i) (l .inv .0) (omega (arith, start .pre .2)) (l .inv .3) (wrote .write-at .ensures))
+    let a = start .args in (
+      omega arith,
+      omega arith,
+      wrote .write-at .kept .1 .1 .1 .1 .0 ∙ l .inv .2,
+      blocks-turn (a .pool .now) (a .cells .now) (a .total) (a .bytes .now) (l .i) (l .inv .0) (omega (arith, start .pre .2)) (l .inv .3)
+          (wrote .write-at .ensures),
+    )
 
 same-length : tie.Need-same-length Inv-loop μ-loop
 same-length c = c .before .loop .inv .2

@@ -7,14 +7,14 @@ use Rattle.file_calls.proofs.write_file.write_first.Statement.{statemen
 use Rattle.file_calls.proofs.write_file.write_first.Tie as tie
 
 slice-relend-prefix-write-block : tie.Need-slice-relend-prefix-write-block
-slice-relend-prefix-write-block c = c .before .before .pre .3
+slice-relend-prefix-write-block c = c .before .before .pre .1
 
 slice-aggregate-write-block : tie.Need-slice-aggregate-write-block
-slice-aggregate-write-block c = sym (length-take-le blockBytes (c .before .before .before .args .bytes .now) (c .before .before .before .pre .3))
+slice-aggregate-write-block c = sym (length-take-le blockBytes (c .before .before .before .args .bytes .now) (c .before .before .before .pre .1))
 
 write-block-requires : tie.Need-write-block-requires
 write-block-requires c κs =
-    let start = c .before .before .before in (start .pre .0, start .pre .1, start .pre .2, length-take-le blockBytes (start .args .bytes .now) (start .pre .3))
+    let start = c .before .before .before in (start .pre .0, length-take-le blockBytes (start .args .bytes .now) (start .pre .1))
 
 same-length : tie.Need-same-length
 same-length c = search needs

@@ -22,7 +22,9 @@ abbrev μ-loop : tie.MeasureT-loop
 μ-loop pool cells first count block₀ i₀ block i = count - i
 
 loop-holds : tie.Need-loop-holds Inv-loop μ-loop
-loop-holds c = (omega arith, refl, c .before .before .pre .2, records-none (c .before .before .args .pool .now) (c .before .before .args .cells .now) (c .before .before .args .first) _)
+loop-holds c =
+    let start = c .before .before in
+    (omega arith, refl, start .pre .2, records-none (start .args .pool .now) (start .args .cells .now) (start .args .first) _)
 
 add-wide : tie.Need-add-wide Inv-loop μ-loop
 add-wide c = let start = c .before .before .before .before in omega (arith, start .pre .0 .few)
@@ -61,7 +63,13 @@ loop-again c =
     let at = read .before .before .before in
     let start = at .before .before .before in
     let l = at .loop in
-    (omega arith, wrote .write-record .kept .1 .1 .0 ∙ l .inv .1, wrote .write-record .kept .1 .1 .0 ∙ l .inv .2, records-more (start .args .pool .now) (start .args .cells .now) _ (start .args .first) (l .i) (omega (arith, start .pre .0 .few, start .pre .0 .room)) (read .wide .ensures .0) refl (l .inv .3) (wrote .write-record .ensures))
+    let size = wrote .write-record .kept .1 .1 .0 in (
+      omega arith,
+      size ∙ l .inv .1,
+      size ∙ l .inv .2,
+      records-more (start .args .pool .now) (start .args .cells .now) _ (start .args .first) (l .i) (omega (arith, start .pre .0 .few, start .pre .0 .room))
+          (read .wide .ensures .0) refl (l .inv .3) (wrote .write-record .ensures),
+    )
 
 same-length : tie.Need-same-length Inv-loop μ-loop
 same-length c = c .before .loop .inv .1

@@ -54,14 +54,9 @@ returns c =
     let columns = first .before .before .before in
     let args = columns .before .before .before .before .before .args in
     let until = put-as (ap (momentColumn (shownBase (args .base))) (moment .before .quarter-after .ensures .0)) (moment .put-moment-column .ensures .0) in
-    put-line
-    (put-then
-    (put-then
-    (put-then
-    (put-then (put-then (put-then (columns .put-columns .ensures .0) (first .put-text .ensures)) until) (second .put-text2 .ensures))
-    (kind .put-kind .ensures .0))
-    (precedence .put-precedence .ensures .0))
-    (c .put-byte .ensures))
+    let timed = put-then (put-then (put-then (columns .put-columns .ensures .0) (first .put-text .ensures)) until) (second .put-text2 .ensures) in
+    let row = put-then (put-then timed (kind .put-kind .ensures .0)) (precedence .put-precedence .ensures .0) in
+    put-line (put-then row (c .put-byte .ensures))
     (omega (
       arith,
       columns .put-columns .ensures .1,

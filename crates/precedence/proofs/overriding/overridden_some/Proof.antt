@@ -53,7 +53,11 @@ loop-again : tie.Need-loop-again Inv-loop μ-loop
 loop-again c =
     let found = c .before .before in
     let turn = found .before .before .before in
-    (omega (arith, turn .loop-test .taken), any-passed _ _ (turn .before .before .before .pre) (turn .loop-test .taken) (found .before .wide .ensures .0) (found .grant-at .ensures) (overridesSome (turn .before .before .before .args .g)) (turn .before .loop .inv .1) (sym (c .before .overrides-some .ensures) ∙ c .if1 .left))
+    let start = turn .before .before .before in (
+      omega (arith, turn .loop-test .taken),
+      any-passed _ _ (start .pre) (turn .loop-test .taken) (found .before .wide .ensures .0) (found .grant-at .ensures) (overridesSome (start .args .g))
+          (turn .before .loop .inv .1) (sym (c .before .overrides-some .ensures) ∙ c .if1 .left),
+    )
 
 returns-2 : tie.Need-returns-2 Inv-loop μ-loop
 returns-2 c =

@@ -22,14 +22,21 @@ returns c =
     let low = c .before in
     let first = low .before .before in
     let a = first .before .before .before .args in
-    rw (sym (first .before .outranks .ensures) ∙ first .if1 .taken, le-leb (a .h .bounds .«staff_from») (a .staff) (omega (arith, low .before .wide .ensures .0, low .if2 .taken)), c .wide2 .ensures .0)
+    rw (
+      sym (first .before .outranks .ensures) ∙ first .if1 .taken,
+      le-leb (a .h .bounds .«staff_from») (a .staff) (omega (arith, low .before .wide .ensures .0, low .if2 .taken)),
+      c .wide2 .ensures .0,
+    )
 
 returns-2 : tie.Need-returns-2
 unfolding overrides
 returns-2 c =
     let first = c .before .before in
     let a = first .before .before .before .args in
-    rw (sym (first .before .outranks .ensures) ∙ first .if1 .taken, lt-leb (a .h .bounds .«staff_from») (a .staff) (omega (arith, c .before .wide .ensures .0, c .if2 .left)))
+    rw (
+      sym (first .before .outranks .ensures) ∙ first .if1 .taken,
+      lt-leb (a .h .bounds .«staff_from») (a .staff) (omega (arith, c .before .wide .ensures .0, c .if2 .left)),
+    )
 
 returns-3 : tie.Need-returns-3
 unfolding overrides

@@ -34,7 +34,9 @@ wide-requires-2 c κs = search needs
 loop-holds : tie.Need-loop-holds Inv-loop μ-loop
 loop-holds c =
     let start = c .before .before .before .before .before in
-    (omega (arith, c .wide2 .ensures .0), passed-none (grantsFrom (start .args .pool .now) (start .args .hits .now) (start .args .found) 0) (start .args .g) (c .wide2 .result) (c .wide2 .ensures .0))
+    let a = start .args in
+    let widened = c .wide2 in
+    (omega (arith, widened .ensures .0), passed-none (grantsFrom (a .pool .now) (a .hits .now) (a .found) 0) (a .g) (widened .result) (widened .ensures .0))
 
 reach-requires : tie.Need-reach-requires Inv-loop μ-loop
 reach-requires c κs = search needs
@@ -57,7 +59,10 @@ loop-again c =
     let turn = c .before .before in
     let start = turn .before .before .before .before .before .before .before in
     let loop = turn .before .loop in
-    (omega (arith, loop .inv .0, c .if2 .left), passed-reach (grantsFrom (start .args .pool .now) (start .args .hits .now) (start .args .found) 0) (start .args .g) (loop .staff) (loop .inv .0) (c .before .reach .ensures) (loop .inv .1))
+    let a = start .args in (
+      omega (arith, loop .inv .0, c .if2 .left),
+      passed-reach (grantsFrom (a .pool .now) (a .hits .now) (a .found) 0) (a .g) (loop .staff) (loop .inv .0) (c .before .reach .ensures) (loop .inv .1),
+    )
 
 returns-3 : tie.Need-returns-3 Inv-loop μ-loop
 returns-3 c =

@@ -47,7 +47,11 @@ loop-again c =
     let found = c .before in
     let turn = found .before .before .before in
     let start = turn .before .before .before in
-    (omega (arith, turn .loop-test .taken), reach-passed _ _ (start .pre) (turn .loop-test .taken) (found .before .wide .ensures .0) (found .grant-at .ensures) (start .args .g) (start .args .staff) (turn .before .loop .best) (turn .before .loop .inv .1) (c .further .ensures))
+    let l = turn .before .loop in (
+      omega (arith, turn .loop-test .taken),
+      reach-passed _ _ (start .pre) (turn .loop-test .taken) (found .before .wide .ensures .0) (found .grant-at .ensures) (start .args .g)
+          (start .args .staff) (l .best) (l .inv .1) (c .further .ensures),
+    )
 
 returns : tie.Need-returns Inv-loop μ-loop
 returns c =
