@@ -4,25 +4,15 @@
 --   Ready w c hits counters         what the walk goes by: the pool's length, and room for a hit of every cell
 --   Fresh w c hits counters         the same before the walk, nothing met or found
 --   Encodes c going hits counters s  the memory stands for s, and serves the next step
---   Testing w c q hits counters k    what the test of cell k goes by: a cell of the pool, and a search range
---   Visiting .. k n g                what a visit of cell k goes by, and the entering of its subtrees: n levels below it, and its region g, which
---                                    meets the range
---   tested, visited, entered         the state of the search after the test of a cell, its visit, and the entering of its subtree on a side
 -- The contracts of the walk cite these; no claim does. Assumes nothing: these are definitions.
-use Prim.Native.Nat.{ℕ, _-_, _<_, _≤_}
+use Prim.Native.Nat.{ℕ, _≤_}
 use mathlib.Core.Path.{_≡_}
 use mathlib.Core.Bool.{Bool, true, false}
 use mathlib.Core.List.{List}
 use lib.ListN.{length, take, getD, replicate}
 use Rattle.model.specs.Limits.{maxGrants}
-use Rattle.geometry.specs.declared.Side.{Side}
-use Rattle.geometry.specs.Axis.{axisOf}
-use Rattle.geometry.specs.Levels.{levels}
-use Rattle.geometry.specs.Region.{Region, Shape, half, meets}
-use Rattle.geometry.specs.SearchRange.{OneSided}
 use Rattle.pool.specs.Capacity.{poolLength}
-use Rattle.adt.specs.Node.{linkPlace}
-use Rattle.adt.specs.Search.{Search, broken, going, meet, visitBy, enter}
+use Rattle.adt.specs.Search.{Search, broken, going}
 
 abbrev pub metIn : List ℕ → ℕ
 metIn counters = getD counters 0 0
@@ -56,25 +46,3 @@ pub record Fresh (w : List ℕ) (c : ℕ) (hits counters : List ℕ) : Type 0 wh
 pub record Encodes (c : ℕ) (going : Bool) (hits counters : List ℕ) (s : Search) : Type 0 where
   pub counted : Counted c hits counters
   pub state : searchIn going hits counters ≡ s
-
-module _ (w : List ℕ) (c : ℕ) (q : Region) (hits counters : List ℕ) (k : ℕ) where
-  pub record Testing : Type 0 where
-    pub ready : Ready w c hits counters
-    pub some : 0 < k
-    pub in-cells : k ≤ c
-    pub one-sided : OneSided q
-
-  pub record Visiting (n : ℕ) (g : Region) : Type 0 where
-    pub testing : Testing
-    pub in-levels : n ≤ levels
-    pub shape : Shape g
-    pub meeting : meets g q ≡ true
-
-  abbrev pub tested : (level link : ℕ) → Search
-  tested level link = meet w c q (record { level = level; link = link }) k (searchIn true hits counters)
-
-  abbrev pub visited : (n link : ℕ) → Region → Search
-  visited n link g = visitBy w c q (enter w c q n) (record { level = levels - n; link = link }) k g (searchIn true hits counters)
-
-  abbrev pub entered : ℕ → Side → Region → Search
-  entered n s g = enter w c q n (linkPlace k s) (half s g (axisOf (levels - n))) (searchIn true hits counters)

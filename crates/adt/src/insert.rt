@@ -7,7 +7,7 @@ use crate::node::link_place;
 use geometry::axis::LEVELS;
 use geometry::axis::axis_of;
 use geometry::region::Point;
-use geometry::region::halve;
+use geometry::region::half_of;
 use geometry::region::root_region;
 use geometry::region::side_of;
 use model::Grant;
@@ -45,7 +45,7 @@ pub fn find_slot(pool: &[u16], cells: usize, point: Point) -> Slot
         }
         let axis = axis_of(LEVELS - below);
         let side = side_of(&region, axis, point[axis]);
-        region = halve(region, axis, side);
+        region[axis] = half_of(side, region[axis][0], region[axis][1]);
         link = link_place(k, side);
         met += 1;
     }

@@ -1,6 +1,6 @@
 // The axes, the levels and the width of a coordinate. Each is named here alone; specs/Axis, Levels and Width say the same.
 ghost use mathlib.Core.Path.{_≡_};
-ghost use Rattle.geometry.specs.Axis.{axes, axisOf};
+ghost use Rattle.geometry.specs.Axis.{axes, axisOf, axisAfter};
 ghost use Prim.Native.Nat.{_<_};
 
 pub const AXES: usize = 7;
@@ -24,20 +24,17 @@ pub const LEVELS: usize = 112;
 
 pub const TOP: u16 = 65535;
 
-// The axes in the order in which the levels halve them; after the last comes the first again.
-const ROUND: [usize; AXES] = [
-    STAFF_FROM,
-    DOOR_FROM,
-    QUARTER_FROM,
-    STAFF_TO,
-    DOOR_TO,
-    QUARTER_TO,
-    NUMBER,
-];
-
 // The axis that a level halves.
 pub fn axis_of(level: usize) -> usize
     ensures { λ r. ⌜ (r ≡ axisOf level) × (r < axes) ⌝ }
 {
-    ROUND[level % AXES]
+    level % AXES
+}
+
+// The axis that the next level halves.
+pub fn axis_after(axis: usize) -> usize
+    requires { ⌜ axis < axes ⌝ }
+    ensures { λ r. ⌜ r ≡ axisAfter axis ⌝ }
+{
+    if axis == NUMBER { 0 } else { axis + 1 }
 }

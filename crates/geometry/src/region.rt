@@ -2,7 +2,7 @@
 ghost use mathlib.Core.Path.{_≡_};
 ghost use Prim.Native.Nat.{_+_, _/_, _<_};
 ghost use Rattle.geometry.specs.Axis.{axes};
-ghost use Rattle.geometry.specs.Region.{Shape, Halving, rootRegion, half, halfOf, meets, sideOf};
+ghost use Rattle.geometry.specs.Region.{rootRegion, halfOf, narrow, meets, sideOf};
 use crate::Side;
 use crate::axis::AXES;
 use crate::axis::TOP;
@@ -27,37 +27,37 @@ pub fn root_region() -> Region
     [axis; AXES]
 }
 
+// The region with another range on an axis, such as a half of its own.
+pub fn narrow(mut region: Region, axis: usize, low: u16, high: u16) -> Region
+    requires { ⌜ axis < axes ⌝ }
+    ensures { λ r. ⌜ r ≡ narrow region axis low high ⌝ }
+{
+    region[axis] = [low, high];
+    region
+}
+
 // Where the lower half of a range ends.
-fn lower_end(low: u16, high: u16) -> u16
+pub fn lower_end(low: u16, high: u16) -> u16
     ensures { λ r. ⌜ r ≡ (low + high) / 2 ⌝ }
 {
     ((wide(low) + wide(high)) / 2) as u16
 }
 
 // Where the upper half begins.
-fn upper_start(low: u16, high: u16) -> u16
+pub fn upper_start(low: u16, high: u16) -> u16
     ensures { λ r. ⌜ r ≡ (low + high + 1) / 2 ⌝ }
 {
     ((wide(low) + wide(high) + 1) / 2) as u16
 }
 
 // The half of a range on a side.
-fn half_of(side: Side, low: u16, high: u16) -> [u16; 2]
+pub fn half_of(side: Side, low: u16, high: u16) -> [u16; 2]
     ensures { λ r. ⌜ r ≡ halfOf side low high ⌝ }
 {
     match side {
         Side::Left => [low, lower_end(low, high)],
         Side::Right => [upper_start(low, high), high],
     }
-}
-
-// The half of a region on a side: one range changes.
-pub fn halve(mut region: Region, axis: usize, side: Side) -> Region
-    requires { ⌜ Shape region × (axis < axes) ⌝ }
-    ensures { λ r. ⌜ r ≡ half side region axis ⌝ }
-{
-    region[axis] = half_of(side, region[axis][0], region[axis][1]);
-    region
 }
 
 // The side whose half holds a coordinate.
@@ -88,17 +88,4 @@ pub fn meets_range(region: &Region, range: &Region) -> bool
         }
     }
     true
-}
-
-// Whether the half on a side meets the range, of a region that does. Only the end that halving moves can fail.
-pub fn half_meets(region: &Region, range: &Region, axis: usize, side: Side) -> bool
-    requires { ⌜ Halving (now region) (now range) axis ⌝ }
-    ensures { λ r. ⌜ r ≡ meets (half side (now (region .entry)) axis) (now (range .entry)) ⌝ }
-{
-    let low = region[axis][0];
-    let high = region[axis][1];
-    match side {
-        Side::Left => range[axis][0] <= lower_end(low, high),
-        Side::Right => upper_start(low, high) <= range[axis][1],
-    }
 }

@@ -5,9 +5,11 @@ use Rattle.adt.specs.Insert.{descendFrom, descend}
 use Rattle.pool.proofs.CapacityLaws.{capacityOf-poolLength}
 use lib.ListN.{length}
 use native.Mathlib.Omega.{arith}
-use mathlib.Core.Path.{_≡_, sym, subst, _∙_}
+use mathlib.Core.Path.{_≡_, sym, ap, subst, _∙_}
+use lib.ListN.{set}
 use Rattle.geometry.specs.Region.{Shape}
 use Rattle.geometry.proofs.RegionLaws.{root-shape, half-shape}
+use Rattle.geometry.proofs.NarrowLaws.{set-halfOf}
 use Prim.Native.Nat.{_≤_, _<_}
 use borrow.Author.Needs.{needs}
 use Rattle.adt.proofs.insert.find_slot.Statement.{statement}
@@ -87,8 +89,32 @@ array-read-side-of c = search needs
 side-of-requires : tie.Need-side-of-requires Inv-loop μ-loop
 side-of-requires c κs = search needs
 
-halve-requires : tie.Need-halve-requires Inv-loop μ-loop
-halve-requires c κs = search needs
+mul-half-of : tie.Need-mul-half-of Inv-loop μ-loop
+mul-half-of c = search needs
+
+index-1-half-of : tie.Need-index-1-half-of Inv-loop μ-loop
+index-1-half-of c = search needs
+
+index-2-half-of : tie.Need-index-2-half-of Inv-loop μ-loop
+index-2-half-of c = search needs
+
+mul-half-of-2 : tie.Need-mul-half-of-2 Inv-loop μ-loop
+mul-half-of-2 c = search needs
+
+index-1-half-of-2 : tie.Need-index-1-half-of-2 Inv-loop μ-loop
+index-1-half-of-2 c = search needs
+
+index-2-half-of-2 : tie.Need-index-2-half-of-2 Inv-loop μ-loop
+index-2-half-of-2 c = search needs
+
+half-of-requires : tie.Need-half-of-requires Inv-loop μ-loop
+half-of-requires c κs = search needs
+
+mul-region : tie.Need-mul-region Inv-loop μ-loop
+mul-region c = search needs
+
+array-set-from-region : tie.Need-array-set-from-region Inv-loop μ-loop
+array-set-from-region c = search needs
 
 link-place-requires : tie.Need-link-place-requires Inv-loop μ-loop
 link-place-requires c κs = search needs
@@ -102,7 +128,7 @@ loop-less c = search needs
 loop-again : tie.Need-loop-again Inv-loop μ-loop
 loop-again c =
     let halved = c .before in
-    let sided = halved .before in
+    let sided = halved .before .before .before in
     let axed = sided .before .before in
     let three = axed .before in
     let two = three .before in
@@ -112,7 +138,7 @@ loop-again c =
     let l = inner .before .loop in
     let p = inner .before .before .before .before .pre in
     let axis = axed .axis-of .ensures in
-    let half = halved .halve .ensures in (
+    let half = ap (set (l .region) (axed .axis-of .result)) (halved .half-of .ensures) ∙ set-halfOf _ (l .region) _ (l .inv .3) (axis .1) in (
       omega (arith, l .inv .0),
       omega (arith, c .link-place .ensures .1, p .long, two .if2 .left),
       omega (arith, three .if3 .left),
@@ -146,7 +172,15 @@ find-slot-spec =
     mul-side-of
     array-read-side-of
     side-of-requires
-    halve-requires
+    mul-half-of
+    index-1-half-of
+    index-2-half-of
+    mul-half-of-2
+    index-1-half-of-2
+    index-2-half-of-2
+    half-of-requires
+    mul-region
+    array-set-from-region
     link-place-requires
     add-met
     loop-less

@@ -2,14 +2,18 @@
 use Rattle.adt.proofs.SearchStarts.{fresh-counted, search-blank, search-apart, search-above, search-visits}
 use mathlib.Core.Bool.{true}
 use Rattle.geometry.proofs.RegionLaws.{root-shape}
-use Rattle.geometry.specs.Region.{Region, Shape, meets}
-use lib.Dec.{lit≤}
+use Rattle.geometry.proofs.NarrowLaws.{narrow-root}
+use Rattle.geometry.specs.Region.{Region, Shape, rootRegion, narrow, meets}
+use lib.Dec.{lit<, lit≤}
 use native.Mathlib.Omega.{arith}
-use mathlib.Core.Path.{sym, ap, subst, _∙_}
+use mathlib.Core.Path.{_≡_, refl, sym, ap, subst, _∙_}
 use borrow.Author.Tests.{not-true, not-false}
 use borrow.Author.Needs.{needs}
 use Rattle.adt.proofs.search.search.Statement.{statement}
 use Rattle.adt.proofs.search.search.Tie as tie
+
+own-root : {g : Region} → g ≡ rootRegion → narrow g 6 0 65535 ≡ rootRegion
+own-root e = ap (λ (g : Region). narrow g 6 0 65535) e ∙ narrow-root
 
 shared-slice-read-wide : tie.Need-shared-slice-read-wide
 shared-slice-read-wide c = search needs
@@ -46,22 +50,22 @@ returns-3 c =
 
 visit-requires : tie.Need-visit-requires
 visit-requires c κs =
-    let two = c .before .before in
-    let rooted = two .before .before .before .before in
+    let rooted = c .before .before .before .before .before .before in
     let start = rooted .before .before .before .before .before in
     let p = start .pre .0 in
-    record {
-      testing =
-          record {
-            ready = record { few = p .few; long = p .long; counted = fresh-counted (start .args .range .now) p };
-            some = omega arith;
-            in-cells = two .if3 .left;
-            one-sided = start .pre .1;
-          };
-      in-levels = lit≤ tt;
-      shape = subst Shape (sym (rooted .root-region .ensures)) root-shape;
-      meeting = sym (two .before .before .meets-range .ensures) ∙ not-false _ (two .before .if2 .left);
-    }
+    let e = rooted .root-region .ensures in
+    let m = sym (c .before .before .before .before .meets-range .ensures) ∙ not-false _ (c .before .before .before .if2 .left) in
+    let own = own-root e in (
+      record { few = p .few; long = p .long; counted = fresh-counted (start .args .range .now) p },
+      lit≤ tt,
+      omega arith,
+      c .before .before .if3 .left,
+      start .pre .1,
+      subst Shape (sym e) root-shape,
+      lit< tt,
+      refl,
+      subst (λ (g : Region). meets g (start .args .range .now) ≡ true) (e ∙ sym own) m,
+    )
 
 returns-4 : tie.Need-returns-4
 returns-4 c =
@@ -71,8 +75,9 @@ returns-4 c =
     let start = rooted .before .before .before .before .before in
     let root = ap (λ (g : Region). meets g (start .args .range .now)) (sym (rooted .root-region .ensures)) in
     let m = root ∙ sym (two .before .meets-range .ensures) ∙ not-false _ (two .if2 .left) in
-    let visits = search-visits _ (start .pre .0) _ (rooted .before .before .wide .ensures .0) (rooted .before .if1 .left)
-    (rooted .root-region .ensures) m (c .before .before .before .if3 .left) in
+    let own = own-root (rooted .root-region .ensures) in
+    let some = rooted .before .if1 .left in
+    let visits = search-visits _ (start .pre .0) _ (rooted .before .before .wide .ensures .0) some own m (c .before .before .before .if3 .left) in
     record { counted = v .counted; state = v .state ∙ visits }
 
 pub search-spec : {M : Type 1} → statement M
