@@ -1,31 +1,68 @@
 -- The search's two steps, case by case: what `enter` gives by its tests, and how a visit is made of three steps.
 --   enter-blank, enter-deep, enter-apart, enter-above, enter-visits    the tests of `enter`, in their order
 --   enter-broken                                                       a broken walk goes no further
---   stands-as                                                          what the memory stands for, once the answer is known
---   child-meets                                                          a child's region meets the range if it does on the axis that was halved
---   child-blank, child-deep, child-before, child-behind, child-past, child-visited what the memory stands for after each test of `enter`
---   visit-cut, visit-left-cut, visit-whole, visit-in                   and after each step of `visit`
+--   stands-as, encodes-as                                              what the memory stands for, once the answer is known
+--   child-deep, child-apart, child-past, child-visited                 what the memory stands for after each test of `enter`
+--   ChildRegion, child-meets, child-half, child-root                   the region that `enter` hands on: the half, and at the root the whole
+--   subtree                                                            the state of the search once the subtree of a cell on a side was entered
+--   subtree-blank, subtree-entered                                     what the memory stands for then: nothing hangs there, or `enter` was called
+--   visit-cut, visit-left-cut, visit-whole                             and after each step of `visit`
 -- Assumes nothing.
-use Prim.Native.Nat.{ℕ, zero, suc, _+_, _-_, _/_, _<_, _≤_}
+use Prim.Native.Nat.{ℕ, zero, suc, _-_, _<_, _≤_}
+use mathlib.Core.Logic.{_≢_}
 use mathlib.Core.Path.{_≡_, refl, sym, ap, subst, _∙_}
 use mathlib.Core.Bool.{Bool, true, false, cond}
 use mathlib.Core.List.{List}
 use native.Mathlib.Numerals.{sub-one}
-use lib.ListN.{getD}
+use lib.ListN.{getD, set}
 use borrow.Author.Tests.{le-leb, lt-leb, eq-eqb, ne-eqb}
 use lib.Dec.{leb}
-use Rattle.lists.proofs.TestLaws.{le-both}
+use Rattle.geometry.specs.declared.Side.{Side}
 use Rattle.geometry.specs.declared.Side.the-variants.{Left, Right}
 use Rattle.geometry.specs.Axis.{axes, axisOf}
 use Rattle.geometry.specs.Levels.{levels}
-use Rattle.geometry.specs.Region.{Region, Shape, low, high, half, narrow, meets}
-use Rattle.geometry.proofs.NarrowLaws.{narrow-half, meets-narrow}
+use Rattle.geometry.specs.Region.{Region, Shape, low, high, half, halfOf, meets}
+use Rattle.geometry.proofs.RegionLaws.{half-shape}
+use Rattle.geometry.proofs.HalfLaws.{set-halfOf}
 use Rattle.adt.specs.Node.{linkPlace}
-use Rattle.adt.specs.Search.{Spot, Search, broken, going, meet, visitBy, enter}
-use Rattle.adt.specs.SearchMemory.{searchIn, Counted, Encodes}
+use Rattle.adt.specs.Search.{Spot, Search, broken, going, visitBy, enter}
+use Rattle.adt.specs.SearchMemory.{searchIn, Counted, Encodes, regionEntered, tested, visited, entered}
 
 pub stands-as : {c : ℕ} {r b : Bool} {h t : List ℕ} {s : Search} → Encodes c r h t s → r ≡ b → searchIn b h t ≡ s
 stands-as {h = h} {t = t} d e = ap (λ (x : Bool). searchIn x h t) (sym e) ∙ d .state
+
+-- r is the region of the cell that is entered, and meets the range
+pub record ChildRegion (q : Region) (n : ℕ) (s : Side) (g r : Region) : Type 0 where
+  pub same : r ≡ regionEntered n s g
+  pub shape : Shape r
+  pub meeting : meets r q ≡ true
+
+module _ (q : Region) (n : ℕ) (s : Side) (g : Region) where
+  -- the answer about the half, on the axis of the level
+  module _ (few : n ≤ levels) {a : ℕ} (axis : a ≡ axisOf (levels - n)) {answer : Bool} (met : answer ≡ meets (half s g a) q) where
+    pub child-meets : meets (regionEntered n s g) q ≡ answer
+    child-meets = rw (le-leb n levels few, ← axis) (sym met)
+
+    pub child-half : a < axes → Shape g → answer ≡ true → {r : Region} → r ≡ set g a (halfOf s (low g a) (high g a)) → ChildRegion q n s g r
+    child-half in-axes shape t e =
+        let halved = e ∙ set-halfOf s g a shape in-axes in
+        record {
+          same = halved ∙ rw (axis, le-leb n levels few);
+          shape = subst Shape (sym halved) (half-shape s g a shape in-axes);
+          meeting = subst (λ (r : Region). meets r q ≡ true) (sym halved) (sym met ∙ t);
+        }
+
+  pub child-root : levels < n → Shape g → meets g q ≡ true → {r : Region} → r ≡ g → ChildRegion q n s g r
+  child-root past shape met e =
+      record {
+        same = e ∙ rw (lt-leb n levels past);
+        shape = subst Shape (sym e) shape;
+        meeting = subst (λ (r : Region). meets r q ≡ true) (sym e) met;
+      }
+
+-- the memory under another name, once the answer is known
+pub encodes-as : {c : ℕ} {r b : Bool} {h h′ t t′ : List ℕ} {s : Search} → Encodes c r h t s → r ≡ b → h′ ≡ h → t′ ≡ t → Encodes c b h′ t′ s
+encodes-as d e i j = rw (i, j, ← e) d
 
 module _ (w : List ℕ) (c : ℕ) (q : Region) where
   -- a search that goes on, at the link at the place `link`, whose value is k
@@ -72,76 +109,58 @@ module _ (w : List ℕ) (c : ℕ) (q : Region) where
   enter-broken zero link g = refl
   enter-broken (suc n) link g = refl
 
-  -- the link at the place `link`, whose value is k; the child's region is the parent's with the range l to h on the axis a
-  module _ (n link : ℕ) {k : ℕ} (e : k ≡ getD w link 0) (g : Region) (a l h : ℕ) (shape : Shape g) (lt : a < axes) (m : meets g q ≡ true) where
-    abbrev child : Region
-    child = narrow g a l h
+  -- the link at the place `link`, which is not blank; it leads to a cell of the region g
+  module _ (n link : ℕ) (leads : getD w link 0 ≢ 0) (g : Region) {hits counters : List ℕ} (counted : Counted c hits counters) where
+    abbrev s : Search
+    s = searchIn true hits counters
 
-    pub child-meets : low q a ≤ h → l ≤ high q a → meets child q ≡ true
-    child-meets i j = meets-narrow g a l h shape lt q m ∙ le-both (low q a) h l (high q a) i j
+    pub child-deep : n ≡ 0 → Encodes c false hits counters (enter w c q n link g s)
+    child-deep z = record { counted = counted; state = enter-deep n link _ g refl _ _ _ leads z }
 
-    module _ {hits counters : List ℕ} (counted : Counted c hits counters) where
-      abbrev s : Search
-      s = searchIn true hits counters
+    module _ (some : ¬ (n ≡ 0)) where
+      pub child-apart : meets g q ≡ false → Encodes c true hits counters (enter w c q n link g s)
+      child-apart m = record { counted = counted; state = enter-apart n link _ g refl _ _ _ leads some m }
 
-      pub child-blank : k ≡ 0 → Encodes c true hits counters (enter w c q n link child s)
-      child-blank z = record { counted = counted; state = enter-blank n link k child e _ _ _ z }
+      module _ (m : meets g q ≡ true) {k : ℕ} (e : k ≡ getD w link 0) where
+        nz : ¬ (k ≡ 0)
+        nz z = leads (sym e ∙ z)
 
-      module _ (nz : ¬ (k ≡ 0)) where
-        pub child-deep : n ≡ 0 → Encodes c false hits counters (enter w c q n link child s)
-        child-deep z = record { counted = counted; state = enter-deep n link k child e _ _ _ nz z }
+        pub child-past : c < k → Encodes c false hits counters (enter w c q n link g s)
+        child-past past = record { counted = counted; state = enter-above n link k g e _ _ _ nz some m past }
 
-        module _ (some : ¬ (n ≡ 0)) where
-          apart : meets child q ≡ false → Encodes c true hits counters (enter w c q n link child s)
-          apart out = record { counted = counted; state = enter-apart n link k child e _ _ _ nz some out }
+        pub child-visited : k ≤ c → {half : Region} → half ≡ g → {r : Bool} {hits′ counters′ : List ℕ}
+            → Encodes c r hits′ counters′ (visited w c q hits counters k (n - 1) link half) → Encodes c r hits′ counters′ (enter w c q n link g s)
+        child-visited few i v = record { counted = v .counted; state = v .state ∙ enter-visits n link k g e _ _ _ nz some i m few }
 
-          pub child-before : h < low q a → Encodes c true hits counters (enter w c q n link child s)
-          child-before out = apart (meets-narrow g a l h shape lt q m ∙ rw (lt-leb (low q a) h out))
+  -- the subtree of the cell k, of the region g, on a side
+  module _ (n k : ℕ) (side : Side) (g : Region) (hits counters : List ℕ) where
+    abbrev pub subtree : Search
+    subtree = enter w c q n (linkPlace k side) (half side g (axisOf (levels - n))) (searchIn true hits counters)
 
-          pub child-behind : low q a ≤ h → high q a < l → Encodes c true hits counters (enter w c q n link child s)
-          child-behind i out = apart (meets-narrow g a l h shape lt q m ∙ rw (le-leb (low q a) h i, lt-leb l (high q a) out))
+    pub subtree-blank : {at : ℕ} → at ≡ linkPlace k side → getD w at 0 ≡ 0 → Counted c hits counters → Encodes c true hits counters subtree
+    subtree-blank place z counted =
+        record { counted = counted; state = enter-blank n _ _ _ (ap (λ (l : ℕ). getD w l 0) place) _ _ _ z }
 
-          module _ (i : low q a ≤ h) (j : l ≤ high q a) where
-            pub child-past : c < k → Encodes c false hits counters (enter w c q n link child s)
-            child-past past = record { counted = counted; state = enter-above n link k child e _ _ _ nz some (child-meets i j) past }
+    pub subtree-entered : n ≤ levels → {at : ℕ} → at ≡ linkPlace k side → {r : Bool} {h t : List ℕ}
+        → Encodes c r h t (entered w c q hits counters n at side g) → Encodes c r h t subtree
+    subtree-entered few place d = record { counted = d .counted; state = d .state ∙ rw (place, le-leb n levels few) }
 
-            pub child-visited : k ≤ c → {r : Bool} {hits′ counters′ : List ℕ}
-                → Encodes c r hits′ counters′ (visitBy w c q (enter w c q (n - 1)) (record { level = levels - (n - 1); link = link }) k child s)
-                → Encodes c r hits′ counters′ (enter w c q n link child s)
-            child-visited few v = record { counted = v .counted; state = v .state ∙ enter-visits n link k child e _ _ _ nz some refl (child-meets i j) few }
-
-  -- the three steps of a visit, from what the memory stands for after each
-  module _ (n : ℕ) (here : Spot) (k : ℕ) (g : Region) (s : Search) where
-    steps : {s₁ s₂ s₃ : Search} → s₁ ≡ meet w c q here k s → s₂ ≡ enter w c q n (linkPlace k Left) (half Left g (axisOf (here .level))) s₁
-        → s₃ ≡ enter w c q n (linkPlace k Right) (half Right g (axisOf (here .level))) s₂ → s₃ ≡ visitBy w c q (enter w c q n) here k g s
+  -- the three steps of a visit of the cell k, from what the memory stands for after each
+  module _ (n link k : ℕ) (g : Region) (hits counters : List ℕ) where
+    steps : {s₁ s₂ s₃ : Search} → s₁ ≡ tested w c q hits counters k (levels - n) link
+        → s₂ ≡ enter w c q n (linkPlace k Left) (half Left g (axisOf (levels - n))) s₁
+        → s₃ ≡ enter w c q n (linkPlace k Right) (half Right g (axisOf (levels - n))) s₂ → s₃ ≡ visited w c q hits counters k n link g
     unfolding visitBy
     steps e₁ e₂ e₃ = e₃ ∙ rw (e₂, e₁)
 
-    -- a region may be given by an equal one
-    pub visit-in : {g′ : Region} → g′ ≡ g → {r : Bool} {h t : List ℕ} → Encodes c r h t (visitBy w c q (enter w c q n) here k g′ s)
-        → Encodes c r h t (visitBy w c q (enter w c q n) here k g s)
-    visit-in e {r} {h} {t} d = subst (λ (x : Region). Encodes c r h t (visitBy w c q (enter w c q n) here k x s)) e d
+    module _ {r : Bool} {h t : List ℕ} (d : Encodes c r h t (tested w c q hits counters k (levels - n) link)) where
+      pub visit-cut : r ≡ false → Encodes c false h t (visited w c q hits counters k n link g)
+      visit-cut e = record { counted = d .counted; state = steps (stands-as d e) (sym (enter-broken n _ _)) (sym (enter-broken n _ _)) }
 
-    pub visit-cut : {r : Bool} {h t : List ℕ} → Encodes c r h t (meet w c q here k s) → r ≡ false
-        → Encodes c false h t (visitBy w c q (enter w c q n) here k g s)
-    visit-cut d e = record { counted = d .counted; state = steps (stands-as d e) (sym (enter-broken n _ _)) (sym (enter-broken n _ _)) }
+      module _ (going : r ≡ true) {r₂ : Bool} {h₂ t₂ : List ℕ} (d₂ : Encodes c r₂ h₂ t₂ (subtree n k Left g h t)) where
+        pub visit-left-cut : r₂ ≡ false → Encodes c false h₂ t₂ (visited w c q hits counters k n link g)
+        visit-left-cut e = record { counted = d₂ .counted; state = steps (stands-as d going) (stands-as d₂ e) (sym (enter-broken n _ _)) }
 
-    module _ (shape : Shape g) {a from to : ℕ} (ea : a ≡ axisOf (here .level)) (lt : a < axes) (ef : from ≡ low g a) (et : to ≡ high g a)
-        {h t : List ℕ} {r : Bool} (d : Encodes c r h t (meet w c q here k s)) (going : r ≡ true) {left : ℕ} (el : left ≡ linkPlace k Left)
-        {end : ℕ} (ee : end ≡ (from + to) / 2) {r₂ : Bool} {h₂ t₂ : List ℕ}
-        (d₂ : Encodes c r₂ h₂ t₂ (enter w c q n left (narrow g a from end) (searchIn true h t))) where
-      lower : narrow g a from end ≡ half Left g a
-      lower = rw (ee, ef, et) (narrow-half Left g a shape lt)
-
-      entered-left : {b : Bool} → r₂ ≡ b → searchIn b h₂ t₂ ≡ enter w c q n (linkPlace k Left) (half Left g (axisOf (here .level))) (searchIn true h t)
-      entered-left e = stands-as d₂ e ∙ rw (lower, el, ea)
-
-      pub visit-left-cut : r₂ ≡ false → Encodes c false h₂ t₂ (visitBy w c q (enter w c q n) here k g s)
-      visit-left-cut e = record { counted = d₂ .counted; state = steps (stands-as d going) (entered-left e) (sym (enter-broken n _ _)) }
-
-      pub visit-whole : r₂ ≡ true → {right : ℕ} → right ≡ linkPlace k Right → {start : ℕ} → start ≡ (from + to + 1) / 2
-          → {r₃ : Bool} {h₃ t₃ : List ℕ} → Encodes c r₃ h₃ t₃ (enter w c q n right (narrow g a start to) (searchIn true h₂ t₂))
-          → Encodes c r₃ h₃ t₃ (visitBy w c q (enter w c q n) here k g s)
-      visit-whole e er {start} es {h₃} {t₃} d₃ =
-          let upper : narrow g a start to ≡ half Right g a = rw (es, ef, et) (narrow-half Right g a shape lt) in
-          record { counted = d₃ .counted; state = steps (stands-as d going) (entered-left e) (d₃ .state ∙ rw (upper, er, ea)) }
+        pub visit-whole : r₂ ≡ true → {r₃ : Bool} {h₃ t₃ : List ℕ} → Encodes c r₃ h₃ t₃ (subtree n k Right g h₂ t₂)
+            → Encodes c r₃ h₃ t₃ (visited w c q hits counters k n link g)
+        visit-whole e d₃ = record { counted = d₃ .counted; state = steps (stands-as d going) (stands-as d₂ e) (d₃ .state) }

@@ -1,10 +1,10 @@
 -- The start of a search, at the root, from memory in which nothing is met or found.
 --   fresh-counted, fresh-state                            what that memory stands for
---   search-blank, search-apart, search-above, search-visits   the tests at the root
+--   search-blank, search-apart, search-entered            the tests at the root
 -- Assumes nothing.
-use Prim.Native.Nat.{ℕ, suc, _-_, _<_, _≤_}
+use Prim.Native.Nat.{ℕ, suc}
 use mathlib.Core.Path.{_≡_, refl, sym, subst, _∙_}
-use mathlib.Core.Bool.{true, false}
+use mathlib.Core.Bool.{Bool, true, false}
 use mathlib.Core.List.{List, []}
 use native.Mathlib.Omega.{arith}
 use lib.ListN.{getD}
@@ -12,9 +12,9 @@ use Rattle.geometry.specs.Levels.{levels}
 use Rattle.geometry.specs.Region.{Region, rootRegion, meets}
 use Rattle.pool.specs.Layout.{rootPlace}
 use Rattle.pool.proofs.CapacityLaws.{capacityOf-poolLength}
-use Rattle.adt.specs.Search.{nowhere, going, visitBy, enter, search}
+use Rattle.adt.specs.Search.{nowhere, going, enter, search}
 use Rattle.adt.specs.SearchMemory.{searchIn, Counted, Fresh, Encodes}
-use Rattle.adt.proofs.EnterSteps.{enter-blank, enter-apart, enter-above, enter-visits}
+use Rattle.adt.proofs.EnterSteps.{enter-blank, enter-apart}
 
 module _ {w : List ℕ} {c : ℕ} {h t : List ℕ} (q : Region) (fresh : Fresh w c h t) where
   pub fresh-counted : Counted c h t
@@ -44,12 +44,6 @@ module _ {w : List ℕ} {c : ℕ} {h t : List ℕ} (q : Region) (fresh : Fresh w
         state = fresh-state ∙ enter-apart w c q (suc levels) rootPlace k rootRegion e 0 [] nowhere nz deep m ∙ sym search-enters;
       }
 
-      pub search-above : meets rootRegion q ≡ true → c < k → Encodes c false h t (search w q)
-      search-above m a = record {
-        counted = fresh-counted;
-        state = enter-above w c q (suc levels) rootPlace k rootRegion e 0 [] nowhere nz deep m a ∙ sym search-enters;
-      }
-
-      pub search-visits : {g : Region} → g ≡ rootRegion → meets rootRegion q ≡ true → k ≤ c
-          → visitBy w c q (enter w c q levels) (record { level = 0; link = rootPlace }) k g (searchIn true h t) ≡ search w q
-      search-visits i m a = rw fresh-state (enter-visits w c q (suc levels) rootPlace k rootRegion e 0 [] nowhere nz deep i m a ∙ sym search-enters)
+  pub search-entered : {g : Region} → g ≡ rootRegion → {r : Bool} {h′ t′ : List ℕ}
+      → Encodes c r h′ t′ (enter w c q (suc levels) rootPlace g (searchIn true h t)) → Encodes c r h′ t′ (search w q)
+  search-entered i d = record { counted = d .counted; state = d .state ∙ rw (i, fresh-state) (sym search-enters) }

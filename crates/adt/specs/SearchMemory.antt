@@ -4,15 +4,28 @@
 --   Ready w c hits counters         what the walk goes by: the pool's length, and room for a hit of every cell
 --   Fresh w c hits counters         the same before the walk, nothing met or found
 --   Encodes c going hits counters s  the memory stands for s, and serves the next step
+--   Testing w c q hits counters k    what the test of the cell k goes by: a cell of the pool, and a search range
+--   Visiting .. k n g                what its visit goes by: n levels below it, and its region g, which meets the range
+--   Entering .. n link g             what `enter` goes by at a link that isn't blank: n levels below the parent, and the parent's region g,
+--                                    which meets the range; at the root's link one level more than there are, and the root's region
+--   regionEntered n s g              the region of the cell that the link leads to: the half of g on a side, at the root all of it
+--   tested, visited, entered         the state of the search after the test of a cell, after its visit, and once its subtree was entered
 -- The contracts of the walk cite these; no claim does. Assumes nothing: these are definitions.
-use Prim.Native.Nat.{ℕ, _≤_}
+use Prim.Native.Nat.{ℕ, suc, _-_, _<_, _≤_}
+use mathlib.Core.Logic.{_≢_}
 use mathlib.Core.Path.{_≡_}
-use mathlib.Core.Bool.{Bool, true, false}
+use mathlib.Core.Bool.{Bool, true, false, cond}
 use mathlib.Core.List.{List}
+use lib.Dec.{leb}
 use lib.ListN.{length, take, getD, replicate}
 use Rattle.model.specs.Limits.{maxGrants}
+use Rattle.geometry.specs.declared.Side.{Side}
+use Rattle.geometry.specs.Axis.{axisOf}
+use Rattle.geometry.specs.Levels.{levels}
+use Rattle.geometry.specs.Region.{Region, Shape, half, meets}
+use Rattle.geometry.specs.SearchRange.{OneSided}
 use Rattle.pool.specs.Capacity.{poolLength}
-use Rattle.adt.specs.Search.{Search, broken, going}
+use Rattle.adt.specs.Search.{Search, broken, going, meet, visitBy, enter}
 
 abbrev pub metIn : List ℕ → ℕ
 metIn counters = getD counters 0 0
@@ -46,3 +59,37 @@ pub record Fresh (w : List ℕ) (c : ℕ) (hits counters : List ℕ) : Type 0 wh
 pub record Encodes (c : ℕ) (going : Bool) (hits counters : List ℕ) (s : Search) : Type 0 where
   pub counted : Counted c hits counters
   pub state : searchIn going hits counters ≡ s
+
+abbrev pub regionEntered : ℕ → Side → Region → Region
+regionEntered n s g = cond (leb n levels) (half s g (axisOf (levels - n))) g
+
+module _ (w : List ℕ) (c : ℕ) (q : Region) (hits counters : List ℕ) where
+  pub record Testing (k : ℕ) : Type 0 where
+    pub ready : Ready w c hits counters
+    pub some : 0 < k
+    pub in-cells : k ≤ c
+    pub one-sided : OneSided q
+
+  pub record Visiting (k n : ℕ) (g : Region) : Type 0 where
+    pub testing : Testing k
+    pub in-levels : n ≤ levels
+    pub shape : Shape g
+    pub meeting : meets g q ≡ true
+
+  pub record Entering (n link : ℕ) (g : Region) : Type 0 where
+    pub ready : Ready w c hits counters
+    pub at : link < length w
+    pub leads : getD w link 0 ≢ 0
+    pub in-levels : n ≤ suc levels
+    pub one-sided : OneSided q
+    pub shape : Shape g
+    pub meeting : meets g q ≡ true
+
+  abbrev pub tested : (k level link : ℕ) → Search
+  tested k level link = meet w c q (record { level = level; link = link }) k (searchIn true hits counters)
+
+  abbrev pub visited : (k n link : ℕ) → Region → Search
+  visited k n link g = visitBy w c q (enter w c q n) (record { level = levels - n; link = link }) k g (searchIn true hits counters)
+
+  abbrev pub entered : (n link : ℕ) → Side → Region → Search
+  entered n link s g = enter w c q n link (regionEntered n s g) (searchIn true hits counters)

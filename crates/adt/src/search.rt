@@ -1,30 +1,20 @@
 // The search: source 001's three steps. `visit` tests a cell and enters its two subtrees; `enter` tests a subtree's region against
 // the range and visits its cell. The levels remaining fall. A search that meets a cause of fault 9 answers false at once.
-ghost use mathlib.Core.Path.{_≡_};
-ghost use mathlib.Core.Bool.{true};
-ghost use Prim.Native.Nat.{_-_, _<_, _≤_};
-ghost use lib.ListN.{length};
-ghost use Rattle.geometry.specs.Axis.{axes, axisOf, axisAfter};
-ghost use Rattle.geometry.specs.Levels.{levels};
-ghost use Rattle.geometry.specs.Region.{Shape, narrow, meets};
 ghost use Rattle.geometry.specs.SearchRange.{OneSided};
-ghost use Rattle.adt.specs.Search.{meet, visitBy, enter, search};
-ghost use Rattle.adt.specs.SearchMemory.{searchIn, Fresh, Ready, Encodes};
+ghost use Rattle.adt.specs.Search.{search};
+ghost use Rattle.adt.specs.SearchMemory.{Fresh, Encodes, Testing, Visiting, Entering, tested, visited, entered};
 use crate::node::is_hit;
+use crate::node::link_place;
+use geometry::Side;
 use geometry::axis::LEVELS;
-use geometry::axis::NUMBER;
-use geometry::axis::TOP;
-use geometry::axis::axis_after;
+use geometry::axis::axis_of;
 use geometry::region::Region;
-use geometry::region::lower_end;
+use geometry::region::half_meets;
+use geometry::region::half_of;
 use geometry::region::meets_range;
-use geometry::region::narrow;
 use geometry::region::root_region;
-use geometry::region::upper_start;
-use pool::Field;
 use pool::layout::MAX_CAPACITY;
 use pool::layout::ROOT;
-use pool::layout::place_of;
 use pool::layout::wide;
 
 // Room for a hit of every cell: the cells of the hits, in the order of the search.
@@ -53,8 +43,9 @@ fn test(
     hits: &mut HitCells,
     counters: &mut Counters,
 ) -> bool
-    requires { ⌜ Ready (now pool) cells (now hits) (now counters) × (0 < k) × (k ≤ cells) × OneSided (now range) ⌝ }
-    ensures { λ r. ⌜ Encodes cells r (now (hits .exit)) (now (counters .exit)) (meet (now (pool .entry)) cells (now (range .entry)) (record { level = level; link = link }) k (searchIn true (now (hits .entry)) (now (counters .entry)))) ⌝ }
+    requires { ⌜ Testing (now pool) cells (now range) (now hits) (now counters) k ⌝ }
+    ensures { λ r. ⌜ Encodes cells r (now (hits .exit)) (now (counters .exit))
+        (tested (now (pool .entry)) cells (now (range .entry)) (now (hits .entry)) (now (counters .entry)) k level link) ⌝ }
 {
     let met = counters[MET];
     let found = counters[FOUND];
@@ -75,59 +66,53 @@ fn test(
     true
 }
 
-// Tests the cell k, which hangs at the link's place with a number of levels below it, then enters its left and its right subtree.
-// Its region is its parent's with the range low to high on the axis that the parent halves.
+// Tests the cell k, which hangs at the link's place with a region of its own and a number of levels below it; then enters its left and its
+// right subtree, where it has one.
 fn visit(
     pool: &[u16],
     cells: usize,
     below: usize,
     k: usize,
     link: usize,
-    halved: usize,
-    low: u16,
-    high: u16,
-    parent: Region,
+    region: Region,
     range: &Region,
     hits: &mut HitCells,
     counters: &mut Counters,
 ) -> bool
-    requires { ⌜ Ready (now pool) cells (now hits) (now counters) × (below ≤ levels) × (0 < k) × (k ≤ cells) × OneSided (now range) × Shape parent
-        × (halved < axes) × (axisAfter halved ≡ axisOf (levels - below)) × (meets (narrow parent halved low high) (now range) ≡ true) ⌝ }
-    ensures { λ r. ⌜ Encodes cells r (now (hits .exit)) (now (counters .exit)) (visitBy (now (pool .entry)) cells (now (range .entry)) (enter (now (pool .entry)) cells (now (range .entry)) below) (record { level = levels - below; link = link }) k (narrow parent halved low high) (searchIn true (now (hits .entry)) (now (counters .entry)))) ⌝ }
+    requires { ⌜ Visiting (now pool) cells (now range) (now hits) (now counters) k below region ⌝ }
+    ensures { λ r. ⌜ Encodes cells r (now (hits .exit)) (now (counters .exit))
+        (visited (now (pool .entry)) cells (now (range .entry)) (now (hits .entry)) (now (counters .entry)) k below link region) ⌝ }
 {
-    let region = narrow(parent, halved, low, high);
     let level = LEVELS - below;
-    let axis = axis_after(halved);
     if !test(pool, cells, k, level, link, range, hits, counters) {
         return false;
     }
-    let from = region[axis][0];
-    let to = region[axis][1];
-    let left = place_of(k, Field::Left);
-    if !enter(
-        pool,
-        cells,
-        below,
-        left,
-        axis,
-        from,
-        lower_end(from, to),
-        region,
-        range,
-        hits,
-        counters,
-    ) {
-        return false;
+    let left = link_place(k, Side::Left);
+    if pool[left] != 0 {
+        if !enter(
+            pool,
+            cells,
+            below,
+            left,
+            Side::Left,
+            region,
+            range,
+            hits,
+            counters,
+        ) {
+            return false;
+        }
     }
-    let right = place_of(k, Field::Right);
+    let right = link_place(k, Side::Right);
+    if pool[right] == 0 {
+        return true;
+    }
     enter(
         pool,
         cells,
         below,
         right,
-        axis,
-        upper_start(from, to),
-        to,
+        Side::Right,
         region,
         range,
         hits,
@@ -135,50 +120,43 @@ fn visit(
     )
 }
 
-// Goes through the link at a place to a child, if it leads to a cell and the child's region meets the range. That region is the parent's with
-// the range low to high on one axis, and only this axis is tested: the parent's region met the range.
+// Goes through the link at a place if the region that it leads to meets the range, and visits the cell there. That region is the half on a
+// side of the parent's, which is handed in; the root, entered with one level more than there are, has all of the region that is handed in.
 fn enter(
     pool: &[u16],
     cells: usize,
     below: usize,
     link: usize,
-    axis: usize,
-    low: u16,
-    high: u16,
-    region: Region,
+    side: Side,
+    mut region: Region,
     range: &Region,
     hits: &mut HitCells,
     counters: &mut Counters,
 ) -> bool
-    requires { ⌜ Ready (now pool) cells (now hits) (now counters) × (below ≤ levels) × (link < length (now pool)) × OneSided (now range)
-        × Shape region × (axis ≡ axisOf (levels - below)) × (meets region (now range) ≡ true) ⌝ }
-    ensures { λ r. ⌜ Encodes cells r (now (hits .exit)) (now (counters .exit)) (enter (now (pool .entry)) cells (now (range .entry)) below link (narrow region axis low high) (searchIn true (now (hits .entry)) (now (counters .entry)))) ⌝ }
+    requires { ⌜ Entering (now pool) cells (now range) (now hits) (now counters) below link region ⌝ }
+    ensures { λ r. ⌜ Encodes cells r (now (hits .exit)) (now (counters .exit))
+        (entered (now (pool .entry)) cells (now (range .entry)) (now (hits .entry)) (now (counters .entry)) below link side region) ⌝ }
 {
-    let k = wide(pool[link]);
-    if k == 0 {
-        return true;
-    }
     if below == 0 {
         return false;
     }
-    if high < range[axis][0] {
-        return true;
+    if below <= LEVELS {
+        let axis = axis_of(LEVELS - below);
+        if !half_meets(&region, range, axis, side) {
+            return true;
+        }
+        region[axis] = half_of(side, region[axis][0], region[axis][1]);
     }
-    if range[axis][1] < low {
-        return true;
-    }
-    if cells < k {
+    let child = wide(pool[link]);
+    if cells < child {
         return false;
     }
     visit(
         pool,
         cells,
         below - 1,
-        k,
+        child,
         link,
-        axis,
-        low,
-        high,
         region,
         range,
         hits,
@@ -198,27 +176,19 @@ pub fn search(
     requires { ⌜ Fresh (now pool) cells (now hits) (now counters) × OneSided (now range) ⌝ }
     ensures { λ r. ⌜ Encodes cells r (now (hits .exit)) (now (counters .exit)) (search (now (pool .entry)) (now (range .entry))) ⌝ }
 {
-    let k = wide(pool[ROOT]);
-    if k == 0 {
+    if pool[ROOT] == 0 {
         return true;
     }
     let region = root_region();
     if !meets_range(&region, range) {
         return true;
     }
-    if cells < k {
-        return false;
-    }
-    // The root's own range on the last axis: it changes nothing, and axis 0 comes next.
-    visit(
+    enter(
         pool,
         cells,
-        LEVELS,
-        k,
+        LEVELS + 1,
         ROOT,
-        NUMBER,
-        0,
-        TOP,
+        Side::Left,
         region,
         range,
         hits,

@@ -1,5 +1,5 @@
 -- Laws of points and regions, for the crates above.
-pub mod NarrowLaws
+pub mod HalfLaws
 pub mod AxisLaws
 pub mod RegionLaws
 pub mod PointLaws

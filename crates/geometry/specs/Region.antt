@@ -6,13 +6,13 @@
 --   sideOf r a x          the half that holds the coordinate x
 --   half s r a            that half: one range changes
 --   halfOf s l h          the half of the range l to h on a side
---   narrow r a l h        the region with another range on an axis; a half is one
 --   meetsOn r q a, meets r q   the two share a coordinate on the axis, and on every axis
+--   Halving r q a         a region that meets the range q, and the axis that is halved
 -- Source 001's (2b) names the left child's low where the right child's is meant; (3) is half-open, so its end is one above `high`.
 -- Assumes nothing: these are definitions.
 use Prim.Native.Nat.{ℕ, _+_, _/_, _<_}
 use mathlib.Core.Path.{_≡_}
-use mathlib.Core.Bool.{Bool, cond, _&&_}
+use mathlib.Core.Bool.{Bool, true, cond, _&&_}
 use mathlib.Core.List.{List, [], _∷_, map}
 use lib.Dec.{leb}
 use lib.ListN.{length, getD, set}
@@ -62,11 +62,13 @@ abbrev pub halfOf : Side → ℕ → ℕ → List ℕ
 halfOf Left lowest highest = range lowest ((lowest + highest) / 2)
 halfOf Right lowest highest = range ((lowest + highest + 1) / 2) highest
 
-abbrev pub narrow : Region → ℕ → ℕ → ℕ → Region
-narrow r a lowest highest = set r a (range lowest highest)
-
 abbrev pub meetsOn : Region → Region → ℕ → Bool
 meetsOn r q a = leb (low q a) (high r a) && leb (low r a) (high q a)
 
 unfoldable pub meets : Region → Region → Bool
 meets r q = each axes (meetsOn r q)
+
+pub record Halving (r q : Region) (a : ℕ) : Type 0 where
+  pub shape : Shape r
+  pub axis : a < axes
+  pub whole : meets r q ≡ true

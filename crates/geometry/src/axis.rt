@@ -1,6 +1,6 @@
 // The axes, the levels and the width of a coordinate. Each is named here alone; specs/Axis, Levels and Width say the same.
 ghost use mathlib.Core.Path.{_≡_};
-ghost use Rattle.geometry.specs.Axis.{axes, axisOf, axisAfter};
+ghost use Rattle.geometry.specs.Axis.{axes, axisOf};
 ghost use Prim.Native.Nat.{_<_};
 
 pub const AXES: usize = 7;
@@ -24,17 +24,18 @@ pub const LEVELS: usize = 112;
 
 pub const TOP: u16 = 65535;
 
-// The axis that a level halves.
+// The axis that a level halves: a table of the axes in the order in which the levels halve them; after the last comes the first again.
 pub fn axis_of(level: usize) -> usize
     ensures { λ r. ⌜ (r ≡ axisOf level) × (r < axes) ⌝ }
 {
-    level % AXES
-}
-
-// The axis that the next level halves.
-pub fn axis_after(axis: usize) -> usize
-    requires { ⌜ axis < axes ⌝ }
-    ensures { λ r. ⌜ r ≡ axisAfter axis ⌝ }
-{
-    if axis == NUMBER { 0 } else { axis + 1 }
+    let place = level % AXES;
+    match place {
+        0 => STAFF_FROM,
+        1 => DOOR_FROM,
+        2 => QUARTER_FROM,
+        3 => STAFF_TO,
+        4 => DOOR_TO,
+        5 => QUARTER_TO,
+        _ => NUMBER,
+    }
 }

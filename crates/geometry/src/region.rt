@@ -2,7 +2,7 @@
 ghost use mathlib.Core.Path.{_≡_};
 ghost use Prim.Native.Nat.{_+_, _/_, _<_};
 ghost use Rattle.geometry.specs.Axis.{axes};
-ghost use Rattle.geometry.specs.Region.{rootRegion, halfOf, narrow, meets, sideOf};
+ghost use Rattle.geometry.specs.Region.{Halving, rootRegion, half, halfOf, meets, sideOf};
 use crate::Side;
 use crate::axis::AXES;
 use crate::axis::TOP;
@@ -27,24 +27,15 @@ pub fn root_region() -> Region
     [axis; AXES]
 }
 
-// The region with another range on an axis, such as a half of its own.
-pub fn narrow(mut region: Region, axis: usize, low: u16, high: u16) -> Region
-    requires { ⌜ axis < axes ⌝ }
-    ensures { λ r. ⌜ r ≡ narrow region axis low high ⌝ }
-{
-    region[axis] = [low, high];
-    region
-}
-
 // Where the lower half of a range ends.
-pub fn lower_end(low: u16, high: u16) -> u16
+fn lower_end(low: u16, high: u16) -> u16
     ensures { λ r. ⌜ r ≡ (low + high) / 2 ⌝ }
 {
     ((wide(low) + wide(high)) / 2) as u16
 }
 
 // Where the upper half begins.
-pub fn upper_start(low: u16, high: u16) -> u16
+fn upper_start(low: u16, high: u16) -> u16
     ensures { λ r. ⌜ r ≡ (low + high + 1) / 2 ⌝ }
 {
     ((wide(low) + wide(high) + 1) / 2) as u16
@@ -88,4 +79,17 @@ pub fn meets_range(region: &Region, range: &Region) -> bool
         }
     }
     true
+}
+
+// Whether the half on a side meets the range, of a region that does. Only the end that halving moves can fail.
+pub fn half_meets(region: &Region, range: &Region, axis: usize, side: Side) -> bool
+    requires { ⌜ Halving (now region) (now range) axis ⌝ }
+    ensures { λ r. ⌜ r ≡ meets (half side (now (region .entry)) axis) (now (range .entry)) ⌝ }
+{
+    let low = region[axis][0];
+    let high = region[axis][1];
+    match side {
+        Side::Left => range[axis][0] <= lower_end(low, high),
+        Side::Right => upper_start(low, high) <= range[axis][1],
+    }
 }

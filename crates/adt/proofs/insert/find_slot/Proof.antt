@@ -9,7 +9,7 @@ use mathlib.Core.Path.{_≡_, sym, ap, subst, _∙_}
 use lib.ListN.{set}
 use Rattle.geometry.specs.Region.{Shape}
 use Rattle.geometry.proofs.RegionLaws.{root-shape, half-shape}
-use Rattle.geometry.proofs.NarrowLaws.{set-halfOf}
+use Rattle.geometry.proofs.HalfLaws.{set-halfOf}
 use Prim.Native.Nat.{_≤_, _<_}
 use borrow.Author.Needs.{needs}
 use Rattle.adt.proofs.insert.find_slot.Statement.{statement}
