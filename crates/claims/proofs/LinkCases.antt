@@ -49,35 +49,43 @@ matched w doors = test (searchMeets9 w (rangeOfDoors doors)) ++ responses (match
 abbrev request : ℕ → ℕ → Request
 request number x = record { number = number; rank = 0; kind = 0; bounds = box x x x x x x }
 
--- the last point of all: each of its halves is the right one
-abbrev last : Request
-last = request 65535 65535
+-- Seven cells in a ring, one for each axis, each on the right of the one before; the seventh, where the numbers are halved, has the link x on
+-- its left. Of 65534 only the last bit is 0: its walk goes round 16 times, and the last halving, at level 111, leads it through x.
+-- There are 140 cells, so that 9 is never by their number.
+abbrev ring : ℕ → ℕ → List ℕ → List ℕ
+ring free x eighth = pool 140 1 free (chain Right 6 1 ++ node x 1 0 ++ eighth)
 
--- to the right from the root, 111 levels down and no farther; of 120 cells, so that 9 is never by their number
+-- a blank link below level 111
 abbrev shallow : ℕ → List ℕ
-shallow free = pool 120 1 free (chain Right 111 1 ++ node 0 0 0)
+shallow free = ring free 0 []
 
--- the same 112 levels down; the cell there has the links l and r and the number n
+-- a cell at level 112 with the links l and r and the number n
 abbrev deep : ℕ → ℕ → ℕ → ℕ → List ℕ
-deep free l r n = pool 120 1 free (chain Right 112 1 ++ node l r n)
+deep free l r n = ring free 8 (node l r n)
+
+-- it goes to the right all the way, but at level 111
+abbrev round : Request
+round = request 65534 65535
 
 abbrev pub deepCases : List Case
 deepCases =
     -- a cell at level 112 is met, counted and perhaps a hit
-    record { given = revoked (deep 0 0 0 0) 65535; wanted = 0 ∷ 0 ∷ 7 ∷ [] }
-    ∷ record { given = revoked (deep 0 0 0 65535) 65535; wanted = 0 ∷ 0 ∷ 0 ∷ [] }
-    ∷ record { given = counted (deep 0 0 0 0); wanted = 0 ∷ 0 ∷ 113 ∷ 7 ∷ [] }
+    record { given = revoked (deep 0 0 0 0) 65534; wanted = 0 ∷ 0 ∷ 7 ∷ [] }
+    ∷ record { given = revoked (deep 0 0 0 65534) 65534; wanted = 0 ∷ 0 ∷ 0 ∷ [] }
     -- a link of it that isn't 0, on either side, leads below
-    ∷ record { given = revoked (deep 0 1 0 0) 65535; wanted = 1 ∷ 1 ∷ 9 ∷ [] }
-    ∷ record { given = revoked (deep 0 0 1 0) 65535; wanted = 1 ∷ 1 ∷ 9 ∷ [] }
-    ∷ record { given = counted (deep 0 1 0 0); wanted = 1 ∷ 9 ∷ [] }
+    ∷ record { given = revoked (deep 0 1 0 0) 65534; wanted = 1 ∷ 1 ∷ 9 ∷ [] }
+    ∷ record { given = revoked (deep 0 0 1 0) 65534; wanted = 1 ∷ 1 ∷ 9 ∷ [] }
+    -- where all numbers are searched, the walk meets the first cell again at level 112, and that has a link
+    ∷ record { given = listed (deep 0 0 0 0) (box 65535 65535 65535 65535 65535 65535) []; wanted = 1 ∷ 9 ∷ [] }
+    ∷ record { given = decided (deep 0 0 0 0) 65535 65535 65535; wanted = 1 ∷ 9 ∷ [] }
+    ∷ record { given = counted (deep 0 0 0 0); wanted = 1 ∷ 9 ∷ [] }
     -- grant's way down: the blank link below level 111 will do, a cell at level 112 will not; with no free cell 6 comes after that
-    ∷ record { given = granted (shallow 120) last; wanted = 0 ∷ 0 ∷ [] }
-    ∷ record { given = granted (shallow 0) last; wanted = 0 ∷ 6 ∷ [] }
-    ∷ record { given = granted (deep 120 0 0 0) last; wanted = 1 ∷ 9 ∷ [] }
-    ∷ record { given = granted (deep 0 0 0 0) last; wanted = 1 ∷ 9 ∷ [] }
+    ∷ record { given = granted (shallow 140) round; wanted = 0 ∷ 0 ∷ [] }
+    ∷ record { given = granted (shallow 0) round; wanted = 0 ∷ 6 ∷ [] }
+    ∷ record { given = granted (deep 140 0 0 0) round; wanted = 1 ∷ 9 ∷ [] }
+    ∷ record { given = granted (deep 0 0 0 0) round; wanted = 1 ∷ 9 ∷ [] }
     -- a number that is found: there is no way down
-    ∷ record { given = granted (deep 0 0 0 65535) last; wanted = 0 ∷ 5 ∷ [] }
+    ∷ record { given = granted (deep 0 0 0 65534) round; wanted = 0 ∷ 5 ∷ [] }
     ∷ []
 
 -- a cell with the number 7, and behind it on the right, from staff 32768 on, a link above C
