@@ -39,7 +39,7 @@ sizeCases =
     -- a word too few, a word too many, no cell, 2,049 cells, and a length that is right only when cut to 16 bits
     record { given = makers (replicate 32 3) ++ others (replicate 32 3); wanted = replicate 9 1 }
     ∷ record { given = makers (replicate 34 3) ++ others (replicate 34 3); wanted = replicate 9 1 }
-    ∷ record { given = makers [] ++ others (replicate 3 0); wanted = replicate 9 1 }
+    ∷ record { given = makers (replicate 3 0) ++ others (replicate 3 0); wanted = replicate 9 1 }
     ∷ record { given = makers (replicate 20493 0); wanted = replicate 2 1 }
     ∷ record { given = makers (replicate 65549 0); wanted = replicate 2 1 }
     ∷ record { given = makers (replicate 20483 0); wanted = replicate 2 0 }
@@ -59,7 +59,7 @@ judged f = responses (loadCall (replicate 23 0) f .answer) ++ responses (matchCa
 abbrev readAt : List ℕ → ℕ → List ℕ
 readAt f i = responses (blockCall f i .answer)
 
--- two grants, one record each
+-- two grants that touch the doors
 abbrev pair : List Grant
 pair =
     record { number = 1; rank = 0; kind = Bars; bounds = box 0 0 40 40 0 0 }

@@ -25,7 +25,7 @@ use Rattle.claims.proofs.Pools.{node, chain, pool}
 abbrev granted : List ℕ → Request → List ℕ
 granted w r = test (grantMeets9 w r) ++ responses (grantCall w r .answer)
 
--- first of the number's search alone
+-- 9 of the number's search alone, 9 of revoke, then the answer
 abbrev revoked : List ℕ → ℕ → List ℕ
 revoked w n = test (searchMeets9 w (rangeOfNumber n)) ++ test (revokeMeets9 w n) ++ responses (revokeCall w n .answer)
 
@@ -132,6 +132,10 @@ freeCases =
 abbrev leftwards : ℕ → ℕ → List ℕ
 leftwards l r = pool 120 1 0 (node 2 0 65535 ++ chain Left 111 2 ++ node l r 0)
 
+-- the number 5 in the cell 3, from which the removal walk comes to a link above C, and n in the root's, from which it comes to the cell 2
+abbrev twoHits : ℕ → List ℕ
+twoHits n = pool 9 1 0 (node 2 3 n ++ node 0 0 0 ++ node 4 0 5 ++ chain Left 4 4 ++ node 0 10 0)
+
 abbrev pub removalCases : List Case
 removalCases =
     -- the search for 65535 does not go to the left of level 6, the removal walk does: to a link above C, to a terminal cell
@@ -140,6 +144,9 @@ removalCases =
     -- left isn't 0: right is not met, though it is above C; left is 0
     ∷ record { given = revoked (seventh 8 5 8 9) 5; wanted = 0 ∷ 0 ∷ 0 ∷ [] }
     ∷ record { given = revoked (seventh 8 5 0 9) 5; wanted = 0 ∷ 1 ∷ 9 ∷ [] }
+    -- the first hit alone is removed
+    ∷ record { given = revoked (twoHits 5) 5; wanted = 0 ∷ 0 ∷ 0 ∷ [] }
+    ∷ record { given = revoked (twoHits 0) 5; wanted = 0 ∷ 1 ∷ 9 ∷ [] }
     -- a terminal cell at level 112, and links of a cell there
     ∷ record { given = revoked (leftwards 0 0) 65535; wanted = 0 ∷ 0 ∷ 0 ∷ [] }
     ∷ record { given = revoked (leftwards 1 0) 65535; wanted = 0 ∷ 1 ∷ 9 ∷ [] }
@@ -150,17 +157,20 @@ removalCases =
     ∷ []
 
 -- four meetings: the cells 1, 2, 3, and 2 again behind 3
-abbrev four : ℕ → List ℕ
-four c = pool c 1 0 (node 2 3 0 ++ node 0 0 0 ++ node 2 0 0)
+abbrev four : ℕ → ℕ → List ℕ
+four c free = pool c 1 free (node 2 3 0 ++ node 0 0 0 ++ node 2 0 0)
 
 abbrev pub manyCases : List Case
 manyCases =
-    record { given = counted (four 4); wanted = 0 ∷ 0 ∷ 4 ∷ 0 ∷ [] }
-    ∷ record { given = counted (four 3); wanted = 1 ∷ 9 ∷ [] }
-    ∷ record { given = revoked (four 4) 8; wanted = 0 ∷ 0 ∷ 7 ∷ [] }
-    ∷ record { given = revoked (four 3) 8; wanted = 1 ∷ 1 ∷ 9 ∷ [] }
+    record { given = counted (four 4 0); wanted = 0 ∷ 0 ∷ 4 ∷ 0 ∷ [] }
+    ∷ record { given = counted (four 3 0); wanted = 1 ∷ 9 ∷ [] }
+    ∷ record { given = revoked (four 4 0) 8; wanted = 0 ∷ 0 ∷ 7 ∷ [] }
+    ∷ record { given = revoked (four 3 0) 8; wanted = 1 ∷ 1 ∷ 9 ∷ [] }
+    -- each walk counts its own: the search met four, the way down meets two more, and the free head's cell isn't counted
+    ∷ record { given = granted (four 4 4) (request 8 0); wanted = 0 ∷ 0 ∷ [] }
+    ∷ record { given = granted (four 3 3) (request 8 0); wanted = 1 ∷ 9 ∷ [] }
     -- 8 goes by the hits, one each time that a cell is met
-    ∷ record { given = listed (four 4) (box 0 65535 0 65535 0 65535) (0 ∷ 0 ∷ 0 ∷ []); wanted = 0 ∷ 8 ∷ 4 ∷ [] }
+    ∷ record { given = listed (four 4 0) (box 0 65535 0 65535 0 65535) (0 ∷ 0 ∷ 0 ∷ []); wanted = 0 ∷ 8 ∷ 4 ∷ [] }
     ∷ []
 
 abbrev everyone : List ℕ → List ℕ

@@ -1,6 +1,8 @@
 -- The definitions tried on numbers, where a slip would hide: one table under one theorem. Assumes nothing.
---   document 01's "Misprints and slips to catch"; a pool of two cells, searched; fault 9 on cyclic links; a history of calls on words
---   beside the same on the book, with an inner cell revoked; a file of two grants, byte for byte, and its verdict
+--   cases         document 01's "Misprints and slips to catch"; a history of calls on words beside the same on the book, with an inner
+--                 cell revoked; pools that a revoke left; fault 9 on cyclic links; a file of two grants, byte for byte, and its verdict
+--   linkCases     of LinkCases: fault 9 on scrambled pools, by the links and by the calls
+--   faultCases    of FaultCases: faults 1, 10, 11 and 14
 use Prim.Native.Nat.{ℕ, _+_, _-_, _*_, _%_, _/_}
 use mathlib.Core.Bool.{Bool, true, false, cond}
 use mathlib.Core.List.{List, [], _∷_, _++_, map, flatMap}
