@@ -1,23 +1,25 @@
 -- Grant's way down that stops and document 01's links of it are one way: it is broken exactly where they are broken.
---   brokenInsertion          a way as a test
+--   brokenInsertion        a way as a test
 --   descendFrom-broken     from any link on the way
---   descend-broken     the whole way of a point
+--   descend-broken         the whole way of a point
+--   freeBroken-links       the two links of the free list are broken exactly where one of document 01's is above C
 -- Assumes nothing.
 use Prim.Native.Nat.{ℕ, zero, suc, _+_, _-_, _≤_}
 use mathlib.Core.Path.{_≡_, refl, sym, ap}
-use mathlib.Core.Bool.{Bool, true, false, cond}
-use mathlib.Core.List.{List, []}
-use lib.Dec.{eqb}
+use mathlib.Core.Bool.{Bool, true, false, cond, not, _&&_, _||_, or-false}
+use mathlib.Core.List.{List, [], _∷_}
+use lib.Dec.{ltb, eqb}
 use lib.ListN.{getD}
 use native.Mathlib.Omega.{arith}
+use Rattle.lists.specs.Tests.{any}
 use Rattle.geometry.specs.Axis.{axisOf}
 use Rattle.geometry.specs.Levels.{levels}
 use Rattle.geometry.specs.Region.{Region, rootRegion, sideOf, half}
-use Rattle.pool.specs.Layout.{rootPlace}
+use Rattle.pool.specs.Layout.{rootPlace, fieldOf}
 use Rattle.pool.specs.Capacity.{capacityOf}
 use Rattle.adt.specs.Node.{linkPlace}
-use Rattle.adt.specs.Insert.{InsertionWalk, broken, blankAt, descendFrom, descend}
-use Rattle.adt.specs.Links.{Link, brokenBy, insertionFrom, insertionLinks}
+use Rattle.adt.specs.Insert.{InsertionWalk, broken, blankAt, descendFrom, descend, freeHead, nextFree, freeBroken}
+use Rattle.adt.specs.Links.{Link, brokenBy, insertionFrom, insertionLinks, freeLinks}
 use Rattle.adt.proofs.LinkLaws.{brokenBy-deep, brokenBy-blank, brokenBy-next}
 
 abbrev pub brokenInsertion : InsertionWalk → Bool
@@ -46,3 +48,11 @@ descendFrom-broken w c p (suc n) l at g met depth few =
 pub descend-broken : (w p : List ℕ) → brokenInsertion (descend w p) ≡ brokenBy (capacityOf w) 0 (insertionLinks w p)
 unfolding descend insertionLinks
 descend-broken w p = descendFrom-broken w (capacityOf w) p (suc levels) 0 rootPlace rootRegion 0 refl (omega arith)
+
+pub freeBroken-links : (w : List ℕ) → freeBroken w ≡ any (ltb (capacityOf w)) (freeLinks w)
+unfolding freeBroken freeLinks any fieldOf
+freeBroken-links w = ap (_||_ (ltb (capacityOf w) (freeHead w))) (go (eqb (freeHead w) 0) (nextFree w))
+  where
+    go : (blank : Bool) (next : ℕ) → (not blank && ltb (capacityOf w) next) ≡ any (ltb (capacityOf w)) (cond blank [] (next ∷ []))
+    go true next = refl
+    go false next = sym (or-false (ltb (capacityOf w) next))

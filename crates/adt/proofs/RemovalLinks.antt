@@ -1,4 +1,5 @@
 -- The removal walk that stops and document 01's links of it are one walk: it is broken exactly where they are broken.
+--   next-link              both go through the same link from a cell
 --   brokenRemoval          a walk as a test
 --   follow-broken          from any cell on the walk
 --   terminalFrom-broken    the whole walk from a cell at its own spot
@@ -10,12 +11,24 @@ use mathlib.Core.List.{List, []}
 use lib.Dec.{eqb}
 use lib.ListN.{getD}
 use native.Mathlib.Omega.{arith}
+use Rattle.geometry.specs.declared.Side.the-variants.{Left, Right}
 use Rattle.geometry.specs.Levels.{levels}
 use Rattle.pool.specs.Capacity.{capacityOf}
+use Rattle.adt.specs.Node.{linkPlace}
 use Rattle.adt.specs.Search.{Spot}
 use Rattle.adt.specs.Remove.{RemovalWalk, broken, terminal, nextLink, follow, terminalFrom}
-use Rattle.adt.specs.Links.{Link, brokenBy, removalFrom, removalLinks}
+use Rattle.adt.specs.Links.{Link, brokenBy, leftElseRight, removalFrom, removalLinks}
 use Rattle.adt.proofs.LinkLaws.{brokenBy-deep, brokenBy-blank, brokenBy-next}
+
+pub next-link : (w : List ℕ) (k : ℕ) → getD w (nextLink w k) 0 ≡ leftElseRight w k
+next-link w k = go (eqb (getD w left 0) 0)
+  where
+    left : ℕ
+    left = linkPlace k Left
+
+    go : (blank : Bool) → getD w (cond blank (linkPlace k Right) left) 0 ≡ cond blank (getD w (linkPlace k Right) 0) (getD w left 0)
+    go true = refl
+    go false = refl
 
 abbrev pub brokenRemoval : RemovalWalk → Bool
 brokenRemoval broken = true
@@ -30,14 +43,13 @@ pub follow-broken : (w : List ℕ) (c n l k at met : ℕ) → l + n ≡ levels �
     → brokenRemoval (follow w c n k at met) ≡ brokenBy c met (removalFrom w n l k)
 unfolding follow removalFrom
 follow-broken w c zero l k at met depth few =
-    let next = getD w (nextLink w k) 0 in
-    let here : Link = record { level = suc l; to = next } in
-    rw (brokenRemoval-cond, brokenBy-blank, brokenBy-deep c met here [] (omega arith))
+    let here : Link = record { level = suc l; to = leftElseRight w k } in
+    rw (next-link, brokenRemoval-cond, brokenBy-blank, brokenBy-deep c met here [] (omega arith))
 follow-broken w c (suc n) l k at met depth few =
-    let next = getD w (nextLink w k) 0 in
+    let next = leftElseRight w k in
     let here : Link = record { level = suc l; to = next } in
     let rest = follow-broken w c n (suc l) next (nextLink w k) (suc met) (omega arith) in
-    rw (brokenRemoval-cond, brokenRemoval-cond, brokenBy-blank)
+    rw (next-link, brokenRemoval-cond, brokenRemoval-cond, brokenBy-blank)
     (ap (cond (eqb next 0) false) (brokenBy-next c met here (removalFrom w n (suc l) next) _ (omega arith) rest))
 
 pub terminalFrom-broken : (w : List ℕ) (k : ℕ) (here : Spot) → here .level ≤ levels → 1 ≤ capacityOf w

@@ -4,8 +4,10 @@
 --   Link                       its value, and the level of the cell that it leads to
 --   brokenBy c met links       a walk through these links meets a cause of 9; `met` cells were met before the first of them
 --   searchLinks w q            the search's links, in its order
---   insertionLinks w p               grant's way down of the point p
+--   insertionLinks w p         grant's way down of the point p
+--   leftElseRight w k          the link that the removal walk goes through from the cell k; 0 at a terminal cell
 --   removalLinks w k l         the removal walk from the cell k at level l, which is met before them
+--   freeLinks w                the links of the free list that grant reads; their cells are not counted and have no level
 --   isHit w q link             the link leads to a cell whose point lies in the range
 --   hitsAmong w q links        the cells of the search's links that are hits, in order
 -- Every list of links is finite by the levels: n counts those left. Assumes nothing: these are definitions.
@@ -20,9 +22,8 @@ use Rattle.geometry.specs.Axis.{axisOf}
 use Rattle.geometry.specs.Levels.{levels}
 use Rattle.geometry.specs.Region.{Region, rootRegion, sideOf, half, meets}
 use Rattle.geometry.specs.Point.{inside}
-use Rattle.pool.specs.Layout.{rootPlace}
+use Rattle.pool.specs.Layout.{rootPlace, freePlace}
 use Rattle.adt.specs.Node.{linkPlace, pointAt}
-use Rattle.adt.specs.Remove.{nextLink}
 
 pub record Link : Type 0 where
   pub level : ℕ
@@ -53,12 +54,19 @@ module _ (w : List ℕ) where
       let onward : List Link = record { level = l; to = k } ∷ insertionFrom p n (suc l) (linkPlace k s) (half s g a) in
       cond (eqb k 0) [] onward
 
+  -- document 01's "left, else right": a link that isn't 0 is gone through, and then right is not looked at
+  abbrev pub leftElseRight : ℕ → ℕ
+  leftElseRight k =
+      let left = getD w (linkPlace k Left) 0 in
+      cond (eqb left 0) (getD w (linkPlace k Right) 0) left
+
+  -- the walk ends at a terminal cell, whose links are both 0
   unfoldable pub removalFrom : ℕ → ℕ → ℕ → List Link
   removalFrom zero l k =
-      let next = getD w (nextLink w k) 0 in
+      let next = leftElseRight k in
       cond (eqb next 0) [] (record { level = suc l; to = next } ∷ [])
   removalFrom (suc n) l k =
-      let next = getD w (nextLink w k) 0 in
+      let next = leftElseRight k in
       let onward : List Link = record { level = suc l; to = next } ∷ removalFrom n (suc l) next in
       cond (eqb next 0) [] onward
 
@@ -70,6 +78,12 @@ insertionLinks w p = insertionFrom w p (suc levels) 0 rootPlace rootRegion
 
 unfoldable pub removalLinks : List ℕ → ℕ → ℕ → List Link
 removalLinks w k l = removalFrom w (levels - l) l k
+
+-- the free head and, unless that is 0, its cell's left link
+unfoldable pub freeLinks : List ℕ → List ℕ
+freeLinks w =
+    let head = getD w freePlace 0 in
+    head ∷ cond (eqb head 0) [] (getD w (linkPlace head Left) 0 ∷ [])
 
 abbrev pub isHit : List ℕ → Region → Link → Bool
 isHit w q link = inside q (pointAt w (link .to))

@@ -23,7 +23,7 @@ use Rattle.adt.specs.Remove.{RemovalWalk, terminalFrom}
 use Rattle.adt.specs.Remove as remove
 use Rattle.adt.specs.Links.{Link, brokenBy, searchLinks, isHit, hitsAmong}
 use Rattle.adt.proofs.SearchLinks.{Searched, search-broken-iff, search-going}
-use Rattle.adt.proofs.InsertionLinks.{brokenInsertion, descend-broken}
+use Rattle.adt.proofs.InsertionLinks.{brokenInsertion, descend-broken, freeBroken-links}
 use Rattle.adt.proofs.RemovalLinks.{brokenRemoval, terminalFrom-broken}
 use Rattle.calls.specs.Walks.{isBroken, hitsOf, removalOf}
 use Rattle.calls.specs.Causes.{numberLive, insertionBroken, removalBroken, grantBroken, revokeBroken}
@@ -66,7 +66,7 @@ pub grantBroken-links : (w : List ℕ) (r : Request) → grantBroken w r ≡ gra
 unfolding grantBroken grantMeets9
 grantBroken-links w r =
     let q = rangeOfNumber (r .number) in
-    or-same (isBroken-links w q) (λ whole. rw (hitsOf-links w q whole, insertionBroken-same, descend-broken))
+    or-same (isBroken-links w q) (λ whole. rw (hitsOf-links w q whole, insertionBroken-same, descend-broken, freeBroken-links))
 
 hitsAmong-kept : (w : List ℕ) (q : Region) (links : List Link) → hitsAmong w q links ≡ map (λ link. link .to) (filter (isHit w q) links)
 unfolding hitsAmong

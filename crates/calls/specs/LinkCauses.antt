@@ -1,20 +1,21 @@
 -- Fault 9 of each call as document 01 says it, from the links that its walks go through (adt/specs/Links), and the hits among them.
--- Demand 1 cites these; the calls cite the walks that stop.
+-- Demand 1 cites these; the calls cite the walks that stop. Nothing here is taken from those: `numberLive` only says that there are hits.
 --   searchMeets9 w q, searchHits w q   of a search for the range q
+--   freeMeets9 w                       the free head or its cell's left link, as grant reads them, is above C
 --   grantMeets9 w r                    grant: when the number isn't found, also the way down, the free head and its cell's left link
 --   revokeMeets9 w n                   revoke: when it is found, also the removal walk from the first hit, at its own level
 -- Assumes nothing: these are definitions.
 use Prim.Native.Nat.{ℕ}
 use mathlib.Core.Bool.{Bool, false, not, _&&_, _||_}
 use mathlib.Core.List.{List, [], _∷_}
-use Rattle.lists.specs.Tests.{filter}
+use lib.Dec.{ltb}
+use Rattle.lists.specs.Tests.{filter, any}
 use Rattle.model.specs.Call.{Request, requested}
 use Rattle.geometry.specs.Region.{Region}
 use Rattle.geometry.specs.Point.{pointOf}
 use Rattle.geometry.specs.SearchRange.{rangeOfNumber}
 use Rattle.pool.specs.Capacity.{capacityOf}
-use Rattle.adt.specs.Insert.{freeBroken}
-use Rattle.adt.specs.Links.{Link, brokenBy, searchLinks, insertionLinks, removalLinks, isHit, hitsAmong}
+use Rattle.adt.specs.Links.{Link, brokenBy, searchLinks, insertionLinks, removalLinks, freeLinks, isHit, hitsAmong}
 use Rattle.calls.specs.Causes.{numberLive}
 
 unfoldable pub searchMeets9 : List ℕ → Region → Bool
@@ -23,11 +24,14 @@ searchMeets9 w q = brokenBy (capacityOf w) 0 (searchLinks w q)
 unfoldable pub searchHits : List ℕ → Region → List ℕ
 searchHits w q = hitsAmong w q (searchLinks w q)
 
+abbrev pub freeMeets9 : List ℕ → Bool
+freeMeets9 w = any (ltb (capacityOf w)) (freeLinks w)
+
 unfoldable pub grantMeets9 : List ℕ → Request → Bool
 grantMeets9 w r =
     let q = rangeOfNumber (r .number) in
     searchMeets9 w q
-    || not (numberLive (searchHits w q)) && (brokenBy (capacityOf w) 0 (insertionLinks w (pointOf (requested r))) || freeBroken w)
+    || not (numberLive (searchHits w q)) && (brokenBy (capacityOf w) 0 (insertionLinks w (pointOf (requested r))) || freeMeets9 w)
 
 -- the removal walk from the first of the links that are hits; none where nothing is hit
 abbrev pub removalMeets9 : List ℕ → List Link → Bool

@@ -4,6 +4,7 @@ use Prim.Native.Nat.{ℕ}
 use mathlib.Core.Bool.{Bool, cond}
 use mathlib.Core.List.{List, [], _∷_}
 use Rattle.lists.specs.Tests.{every, sameNumbers}
+use Rattle.model.specs.declared.Box.{Box}
 use Rattle.geometry.specs.declared.Side.{Side}
 use Rattle.geometry.specs.declared.Side.the-variants.{Left, Right}
 use Rattle.model.specs.Answer.{Answer, accepted, refused}
@@ -14,6 +15,11 @@ pub record Case : Type 0 where
 
 abbrev pub passed : List Case → Bool
 passed cases = every (λ c. sameNumbers (c .given) (c .wanted)) cases
+
+-- staff from and to, door from and to, quarter from and to
+abbrev pub box : ℕ → ℕ → ℕ → ℕ → ℕ → ℕ → Box
+box a b c d e f =
+    record { «staff_from» = a; «staff_to» = b; «door_from» = c; «door_to» = d; «quarter_from» = e; «quarter_to» = f }
 
 -- a single number, a test, a side, an answer
 abbrev pub one : ℕ → List ℕ

@@ -1,6 +1,9 @@
 -- The definitions tried on numbers, and the proofs of the claims.
 pub mod Cases
 pub mod MarkedCases
+pub mod Pools
+pub mod LinkCases
+pub mod FaultCases
 pub mod TriedCases
 pub mod Answers
 pub mod NeverBroken

@@ -1,6 +1,8 @@
 -- The definitions tried on numbers, where a slip would hide: one table under one theorem. Assumes nothing.
---   document 01's "Misprints and slips to catch"; a pool of two cells, searched; fault 9 on cyclic links; a history of calls on words
---   beside the same on the book, with an inner cell revoked; a file of two grants, byte for byte, and its verdict
+--   cases         document 01's "Misprints and slips to catch"; a history of calls on words beside the same on the book, with an inner
+--                 cell revoked; pools that a revoke left; fault 9 on cyclic links; a file of two grants, byte for byte, and its verdict
+--   linkCases     of LinkCases: fault 9 on scrambled pools, by the links and by the calls
+--   faultCases    of FaultCases: faults 1, 10, 11 and 14
 use Prim.Native.Nat.{ℕ, _+_, _-_, _*_, _%_, _/_}
 use mathlib.Core.Bool.{Bool, true, false, cond}
 use mathlib.Core.List.{List, [], _∷_, _++_, map, flatMap}
@@ -11,7 +13,6 @@ use Rattle.lists.specs.Tests.{filter, every, any, each, sameNumbers}
 use Rattle.lists.specs.Ranges.{countFrom}
 use Rattle.lists.specs.Overwrite.{overwrite}
 use Rattle.lists.specs.Sort.{insertBy, sortBy}
-use Rattle.model.specs.declared.Box.{Box}
 use Rattle.model.specs.declared.Fault.{Fault}
 use Rattle.model.specs.declared.Grant.{Grant}
 use Rattle.model.specs.declared.Kind.the-variants.{Bars, Opens}
@@ -36,7 +37,7 @@ use Rattle.pool.specs.Fresh.{freeCells, freshPool}
 use Rattle.adt.specs.Search.{Search, broken, going, meet, visitBy, enter, search}
 use Rattle.adt.specs.Insert.{descendFrom, descend, freeBroken, inserted}
 use Rattle.adt.specs.Remove.{follow, terminalFrom, replaced, unlinked, freed, removed}
-use Rattle.adt.specs.Links.{brokenBy, searchFrom, insertionFrom, removalFrom, searchLinks, insertionLinks, removalLinks, hitsAmong}
+use Rattle.adt.specs.Links.{brokenBy, searchFrom, insertionFrom, removalFrom, searchLinks, insertionLinks, removalLinks, freeLinks, hitsAmong}
 use Rattle.checksum.specs.Checksum.{base256, checksum}
 use Rattle.grants_file.specs.Record.{encodeRecord, decodeRecord}
 use Rattle.grants_file.specs.Block.{sealed, headerBlock, recordBlock, recordsOf, wrongChecksum, wrongPadding}
@@ -50,12 +51,10 @@ use Rattle.calls.specs.Order.{startOrder, grantOrder, revokeOrder, listOrder, l
 use Rattle.calls.specs.Calls.{startCall, grantCall, revokeCall, listCall, decideCall, countCall, wordsStep}
 use Rattle.calls.specs.FileCalls.{writeCall, grantAll, loadCall, firstDifference, matchCall, blockCall}
 use Rattle.model.specs.Histories.{Response, responses, after}
-use Rattle.claims.proofs.Cases.{Case, passed, one, test}
+use Rattle.claims.proofs.Cases.{Case, passed, box, one, test}
 use Rattle.claims.proofs.Cases as say
-
-abbrev box : ℕ → ℕ → ℕ → ℕ → ℕ → ℕ → Box
-box a b c d e f =
-    record { «staff_from» = a; «staff_to» = b; «door_from» = c; «door_to» = d; «quarter_from» = e; «quarter_to» = f }
+use Rattle.claims.proofs.LinkCases.{linkCases}
+use Rattle.claims.proofs.FaultCases.{faultCases}
 
 -- document 01's two grants of the slips
 abbrev seven : Request
@@ -99,12 +98,20 @@ rivals =
     ∷ decide 9 9 9
     ∷ []
 
+-- one that goes behind 3 on the left, at level 1
+abbrev five : Request
+five = record { number = 5; rank = 1; kind = 0; bounds = box 0 65535 12 12 0 0 }
+
 abbrev numbers : List Response → List ℕ
 numbers [] = []
 numbers (t ∷ ts) = say.responses (t .answer) ++ t .lent ++ numbers ts
 
 abbrev fresh : List ℕ
 fresh = startCall (replicate 33 9) .state
+
+-- four cells after the grants, then the revoke
+abbrev revokedLast : List Request → ℕ → List ℕ
+revokedLast rs n = after wordsStep (startCall (replicate 43 9) .state) (map grant rs ++ (revoke n ∷ []))
 
 -- two cells that link to each other
 abbrev cycle : List ℕ
@@ -173,6 +180,46 @@ cases =
           ++ (1 ∷ 3 ∷ 3 ∷ 40 ∷ 150 ∷ 150 ∷ 12 ∷ 12 ∷ 0 ∷ 65535 ∷ [])
           ++ (0 ∷ 0 ∷ 9 ∷ 21 ∷ 40000 ∷ 40001 ∷ 41 ∷ 50 ∷ 0 ∷ 9 ∷ []);
     }
+    -- the words where a revoke came last: the terminal cell 2 was the son of 7's cell 1 and took its right link; cell 1 is the free head
+    ∷ record {
+      given = revokedLast (seven ∷ three ∷ nine ∷ []) 7;
+      wanted =
+          4 ∷ 2 ∷ 1
+          ∷ (4 ∷ replicate 9 0)
+          ++ (0 ∷ 3 ∷ 3 ∷ 40 ∷ 150 ∷ 150 ∷ 12 ∷ 12 ∷ 0 ∷ 65535 ∷ [])
+          ++ (0 ∷ 0 ∷ 9 ∷ 21 ∷ 40000 ∷ 40001 ∷ 41 ∷ 50 ∷ 0 ∷ 9 ∷ [])
+          ++ replicate 10 0;
+    }
+    -- the terminal cell 4 was 3's: it is cut off there and takes both links of cell 1; no other cell was free
+    ∷ record {
+      given = revokedLast (seven ∷ three ∷ nine ∷ five ∷ []) 7;
+      wanted =
+          4 ∷ 4 ∷ 1
+          ∷ replicate 10 0
+          ++ (0 ∷ 0 ∷ 3 ∷ 40 ∷ 150 ∷ 150 ∷ 12 ∷ 12 ∷ 0 ∷ 65535 ∷ [])
+          ++ (0 ∷ 0 ∷ 9 ∷ 21 ∷ 40000 ∷ 40001 ∷ 41 ∷ 50 ∷ 0 ∷ 9 ∷ [])
+          ++ (2 ∷ 3 ∷ 5 ∷ 2 ∷ 0 ∷ 65535 ∷ 12 ∷ 12 ∷ 0 ∷ 0 ∷ []);
+    }
+    -- left is blank, so right is followed, to cell 2
+    ∷ record {
+      given = revokedLast (seven ∷ nine ∷ []) 7;
+      wanted =
+          4 ∷ 2 ∷ 1
+          ∷ (3 ∷ replicate 9 0)
+          ++ (0 ∷ 0 ∷ 9 ∷ 21 ∷ 40000 ∷ 40001 ∷ 41 ∷ 50 ∷ 0 ∷ 9 ∷ [])
+          ++ (4 ∷ replicate 9 0)
+          ++ replicate 10 0;
+    }
+    -- a terminal cell, 9's cell 3, is cut off
+    ∷ record {
+      given = revokedLast (seven ∷ three ∷ nine ∷ []) 9;
+      wanted =
+          4 ∷ 1 ∷ 3
+          ∷ (2 ∷ 0 ∷ 7 ∷ 21 ∷ 100 ∷ 199 ∷ 1 ∷ 40 ∷ 32 ∷ 63 ∷ [])
+          ++ (0 ∷ 0 ∷ 3 ∷ 40 ∷ 150 ∷ 150 ∷ 12 ∷ 12 ∷ 0 ∷ 65535 ∷ [])
+          ++ (4 ∷ replicate 9 0)
+          ++ replicate 10 0;
+    }
     -- fault 9 on links that form a cycle
     ∷ record { given = say.responses (countCall cycle .answer); wanted = one 9 }
     ∷ record { given = say.responses (decideCall cycle 0 0 0 .answer); wanted = one 9 }
@@ -210,13 +257,14 @@ cases =
     ∷ record { given = say.responses (loadCall (replicate 13 1) (fileOf doors two) .answer); wanted = one 6 }
     ∷ []
 
-pub tried-cases : T (passed cases)
+pub tried-cases : T (passed (cases ++ linkCases ++ faultCases))
 unfolding filter every any each sameNumbers countFrom overwrite insertBy sortBy overlaps sameGrant firstFault refusing reversedBox outranks decidingOf
     decideAmong bookGrant bookRevoke bookList bookDecide bookCount bookStep rootRegion half meets pointOf inside rangeOfBox rangeOfDoors rangeOfNumber
     place fieldOf capacityOf wrongLength wrongPool grantAt withCell freeCells freshPool meet visitBy enter search descendFrom descend freeBroken inserted
-    follow terminalFrom replaced unlinked freed removed grantBroken revokeBroken startOrder grantOrder revokeOrder listOrder lookOrder startCall
+    follow terminalFrom replaced unlinked freed removed brokenBy searchFrom insertionFrom removalFrom searchLinks insertionLinks removalLinks freeLinks
+    hitsAmong searchMeets9 searchHits grantMeets9 revokeMeets9 grantBroken revokeBroken startOrder grantOrder revokeOrder listOrder lookOrder startCall
     grantCall revokeCall listCall decideCall countCall wordsStep responses after base256 checksum encodeRecord decodeRecord sealed headerBlock recordBlock
     recordsOf wrongChecksum wrongPadding fileOf grantsIn wrongBlockCount recordsDefects lastBefore contentDefects fileDefects fileCauses notInFile
     wrongCount restDefects readCauses partOf writeOrder loadOrder matchOrder writeCall grantAll loadCall firstDifference matchCall
-    mathlib.Core.List.flatMap
+    blockCall mathlib.Core.List.flatMap
 tried-cases = tt
