@@ -56,7 +56,7 @@ use Rattle.calls.proofs.Represents.{grantNumber, Represents, live-distinct, rep
 use Rattle.calls.proofs.QueryLaws.{list-refines, decide-refines}
 use Rattle.calls.proofs.StartLaws.{start-sized}
 use Rattle.calls.proofs.HoldsLaws.{represents-holds}
-use Rattle.calls.proofs.LoadLaws.{bookOf, set-represents, load-set, load-represents, load-refuses}
+use Rattle.calls.proofs.LoadLaws.{set-represents, load-set, load-represents, load-refuses}
 use Rattle.calls.proofs.MatchLaws.{match-equal, match-differs, match-refuses}
 use Rattle.claims.specs.Claims.{Memory, touching, Writes, ListsOverlapping, Decides, MatchesSet, Demand2}
 use Rattle.claims.proofs.Answers.{represents-calls, represents-files, memory-sized, calls-represent}
