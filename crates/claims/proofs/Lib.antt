@@ -2,8 +2,8 @@
 pub mod Cases
 pub mod MarkedCases
 pub mod TriedCases
-pub mod Answers
-pub mod NeverBroken
+pub mod MadeLaws
+pub mod KeepsLaws
 pub mod Demand1
 pub mod Demand2
 pub mod Demand3
