@@ -5,7 +5,7 @@
 --   removed-becomes    a removed cell becomes it
 -- Assumes nothing.
 use Prim.Native.Nat.{ℕ, zero, suc, _+_, _<_}
-use mathlib.Core.Path.{_≡_, refl, sym, ap, subst, _∙_}
+use mathlib.Core.Path.{_≡_, refl, sym, ap, _∙_}
 use mathlib.Core.List.{List, _∷_, Memᴰ·append-right}
 use native.Mathlib.Omega.{arith}
 use lib.ListN.{getD}
@@ -15,7 +15,7 @@ use Rattle.model.specs.declared.Grant.{Grant}
 use Rattle.geometry.specs.declared.Side.the-variants.{Left}
 use Rattle.pool.specs.Layout.{fieldOf}
 use Rattle.pool.proofs.FreeCellLaws.{cleared-words}
-use Rattle.adt.specs.Reach.{childOf, freeAt, Carries, IsFree}
+use Rattle.adt.specs.Reach.{childOf, freeAt, IsFree}
 use Rattle.adt.specs.FreeHead.{TakesFreeHead, BecomesFreeHead}
 use Rattle.adt.proofs.Spells.{Tree, cellsOf, FreeChain, chain-end, chain-more}
 use Rattle.adt.proofs.Linked.{Linked, linked-upto}

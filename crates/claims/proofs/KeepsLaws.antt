@@ -9,7 +9,7 @@
 use Prim.Native.Nat.{ℕ}
 use mathlib.Core.Logic.{_↔_}
 use mathlib.Core.Path.{_≡_, refl, sym, ap, _∙_}
-use mathlib.Core.List.{List, [], _∷_, map, List·Memᴰ, Memᴰ·map, Memᴰ·of-map, Memᴰ·cast}
+use mathlib.Core.List.{List, map, List·Memᴰ, Memᴰ·map, Memᴰ·of-map, Memᴰ·cast}
 use lib.ListN.{take}
 use borrow.Author.Tests.{le-ltb}
 use Rattle.lists.proofs.KeyLaws.{distinct-keys-filter}
@@ -20,7 +20,7 @@ use Rattle.model.specs.declared.Decision.{Decision}
 use Rattle.model.specs.declared.Decision.the-variants as decision
 use Rattle.model.specs.Box.{pointBox}
 use Rattle.model.specs.Overlap.{Overlap, overlaps}
-use Rattle.model.specs.Answer.{accepted, decisionAnswer}
+use Rattle.model.specs.Answer.{decisionAnswer}
 use Rattle.model.specs.Decide.{decisionOf, decideAmong}
 use Rattle.model.specs.Values.{CallFits}
 use Rattle.model.specs.Book.{Book, overlapping, bookDecide, bookStep}
@@ -31,7 +31,7 @@ use Rattle.model.proofs.DecideLaws.{yields-iff, decideAmong-none, Foremost, for
 use Rattle.model.proofs.BookLaws.{bookList-writes}
 use Rattle.model.proofs.SoundLaws.{sound-answer}
 use Rattle.model.proofs.Simulation.{calls-refine}
-use Rattle.calls.specs.Calls.{listCall, decideCall, wordsStep}
+use Rattle.calls.specs.Calls.{decideCall, wordsStep}
 use Rattle.calls.proofs.Represents.{grantNumber, Represents, live-distinct, represents-rises}
 use Rattle.calls.proofs.QueryLaws.{list-refines, decide-refines}
 use Rattle.calls.proofs.CallLaws.{call-refines}

@@ -13,7 +13,7 @@ use Rattle.model.specs.Interval.{Interval}
 use Rattle.model.specs.Answer.{accepted}
 use Rattle.model.specs.Refusal.{Step}
 use Rattle.model.specs.Call.{Call}
-use Rattle.model.specs.Values.{CallFits, CallsFit}
+use Rattle.model.specs.Values.{CallsFit}
 use Rattle.model.specs.Book.{Book, bookOf, bookStep}
 use Rattle.model.specs.Histories.{after}
 use Rattle.model.proofs.BookLaws.{bookStep-capacity}

@@ -65,7 +65,7 @@ pub record KeepsBook (c : ℕ) (memory : List ℕ) (calls : List Call) : Type 0 
   pub started : startCall memory .answer ≡ accepted []
   -- every answer is that of the plain book, lent lists included
   pub answers : responses wordsStep (startCall memory .state) calls ≡ responses bookStep (emptyBook c) calls
-  -- the links reach each cell once; the reached cells carry the live grants, in their regions, none behind more than 112
+  -- the links reach each cell once; the reached cells carry the live grants, in their regions, none behind more than 112; the others are free
   pub holds : Holds (wordsAfter memory calls) c (liveAfter c calls)
   -- the file written for any door range is that of the range and the live grants touching it
   pub files : WritesFiles (wordsAfter memory calls) (liveAfter c calls)
