@@ -35,6 +35,7 @@ use Rattle.pool.specs.Cell.{grantAt, cellOf, withCell}
 use Rattle.pool.proofs.LayoutLaws.{field-set-header}
 use Rattle.pool.proofs.CellLaws.{SameGrantWords, length-withCell, field-withCell-same, field-withCell-other}
 use Rattle.pool.proofs.CellLaws.{header-withCell, grantAt-same, grantAt-withCell-same}
+use Rattle.pool.proofs.FreeCellLaws.{Cleared, cleared-same}
 use Rattle.adt.specs.Node.{linkField, linkPlace}
 use Rattle.adt.specs.Insert.{InsertionWalk, broken, blankAt, descendFrom, descend, freeHead, nextFree, inserted}
 use Rattle.adt.proofs.Spells.{Tree, blank, node, cellsOf, Spells, spells-blank, spells-node, FreeChain, chain-more}
@@ -243,16 +244,26 @@ module _ {w : List ℕ} {c : ℕ} {t : Tree} {ks : List ℕ} {g : Grant} {at : �
   unfolding grown cellsOf
   put-new = rw (exchanged-same (b .part)) at (exchanged-put (b .part) (freeHead w) blank (node (freeHead w) blank blank) put-first)
 
+  -- the free cells that stay
+  free-bounds : (j : ℕ) → List·Memᴰ j ks → (0 < j) × (j ≤ c)
+  free-bounds j m = linked-upto h j (Memᴰ·append-right (cellsOf t) (List·Memᴰ·tail m))
+
+  free-other : (j : ℕ) → List·Memᴰ j ks → ¬ (j ≡ freeHead w)
+  free-other j m e = distinct-apart (freeHead w ∷ []) (distinct-right (cellsOf t) (linked-distinct h)) j (List·Memᴰ·head e) m
+
+  free-link : (j : ℕ) (s : Side) → List·Memᴰ j ks → getD (inserted w at g) (linkPlace j s) 0 ≡ getD w (linkPlace j s) 0
+  free-link j s m = kept-link j s (free-bounds j m .0) (free-bounds j m .1) (free-other j m) (free-away j (List·Memᴰ·tail m) s)
+
   chain-rest : FreeChain (inserted w at g) c (freeHead (inserted w at g)) ks
   unfolding fieldOf
-  chain-rest =
-      rw (inserted-freeHead w g hook (h .long) (own .pos) (own .le))
-      (chain-frame
-      (λ j m.
-      let bounds = linked-upto h j (Memᴰ·append-right (cellsOf t) (List·Memᴰ·tail m)) in
-      let n : ¬ (j ≡ freeHead w) = λ e. distinct-apart (freeHead w ∷ []) (distinct-right (cellsOf t) (linked-distinct h)) j (List·Memᴰ·head e) m in
-      kept-link j Left (bounds .0) (bounds .1) n (free-away j (List·Memᴰ·tail m) Left))
-      (own .rest))
+  chain-rest = rw (inserted-freeHead w g hook (h .long) (own .pos) (own .le)) (chain-frame (λ j m. free-link j Left m) (own .rest))
+
+  cleared-rest : (j : ℕ) → List·Memᴰ j ks → Cleared (inserted w at g) j
+  unfolding fieldOf
+  cleared-rest j m =
+      cleared-same w (inserted w at g) j (free-link j Right m)
+      (inserted-kept w g hook (h .long) (own .pos) (own .le) j (free-bounds j m .0) (free-other j m))
+      (h .cleared j (List·Memᴰ·tail m))
 
   linked-new : Linked (inserted w at g) c grown ks
   unfolding grown
@@ -262,6 +273,7 @@ module _ {w : List ℕ} {c : ℕ} {t : Tree} {ks : List ℕ} {g : Grant} {at : �
     spells = exchanged-spells (b .part) (node (freeHead w) blank blank) refl (h .spells) kept-outside spells-new;
     free = chain-rest;
     cells = perm-trans (h .cells) (perm-trans (perm-sym (put-perm (put-seam (cellsOf t) ks))) (put-perm (put-append-left ks put-new)));
+    cleared = cleared-rest;
   }
 
   words-kept : (j : ℕ) → List·Memᴰ j (cellsOf t) → SameGrantWords w (inserted w at g) j

@@ -30,3 +30,4 @@ pub mod RemoveLaws
 pub mod LiveLaws
 pub mod CarriesLaws
 pub mod ReachLaws
+pub mod FreeHeadLaws

@@ -3,6 +3,8 @@
 --   pathsOf t ks        all paths: to the cells of the tree t, and to the free cells ks
 --   ends-pathsOf        their ends are these cells
 --   spells-path         the link at a path spells a tree, in the path's region
+--   free-next           the next cell from the free head is the left link of the one before
+--   free-within         no more steps from the free head end at a cell than there are free cells
 --   path-mem            a path that ends at a cell is one of them
 --   linked-within       no path ends above c
 --   linked-once         each of the cells 1 to c is at the end of exactly one
@@ -96,7 +98,7 @@ module _ (w : List ℕ) where
   unfolding nodeAt
   path-before p s h = child-some (nodeAt w p) s h
 
-  free-next : (n : ℕ) {k : ℕ} → freeAt w n ≡ k → 0 < k → freeAt w (suc n) ≡ getD w (linkPlace k Left) 0
+  pub free-next : (n : ℕ) {k : ℕ} → freeAt w n ≡ k → 0 < k → freeAt w (suc n) ≡ getD w (linkPlace k Left) 0
   unfolding freeAt
   free-next n {k} e pos = ap (λ (j : ℕ). childOf w j Left) e ∙ child-link k Left pos
 
@@ -201,12 +203,13 @@ module _ {w : List ℕ} {c : ℕ} {t : Tree} {ks : List ℕ} (h : Linked w c t k
   root-mem [] i = paths-first w c [] i (h .spells)
   root-mem (s ∷ p) i = paths-more w c [] refl (h .spells) p s (root-mem p (path-before w p s i)) i
 
+  pub free-within : (n : ℕ) → 0 < freeAt w n → n < length ks
+  free-within n i = let r = chain-path n in omega (arith, chain-some i (r .1), r .2)
+
   pub path-mem : (p : Path) → 0 < endOf w p → List·Memᴰ p (pathsOf t ks)
   path-mem (fromRoot p) i = Memᴰ·append-left (map fromFree (countFrom 0 (length ks))) (Memᴰ·map fromRoot (root-mem p i))
   path-mem (fromFree n) i =
-      let r = chain-path n in
-      Memᴰ·append-right (map fromRoot (pathsIn [] t))
-      (Memᴰ·map fromFree (mem-countFrom 0 (length ks) n (omega arith) (omega (arith, chain-some i (r .1), r .2))))
+      Memᴰ·append-right (map fromRoot (pathsIn [] t)) (Memᴰ·map fromFree (mem-countFrom 0 (length ks) n (omega arith) (omega (arith, free-within n i))))
 
   pub linked-within : (p : Path) → endOf w p ≤ c
   linked-within (fromRoot p) = spells-le (spells-path p .1)

@@ -4,7 +4,7 @@
 --   remove-keeps-linked        it leaves that
 -- That its walk is never broken is in FollowLaws. Assumes nothing.
 use Prim.Native.Nat.{ℕ, suc, _<_, _≤_}
-use mathlib.Core.Path.{_≡_, refl, sym, _∙_}
+use mathlib.Core.Path.{_≡_, refl, sym, subst, _∙_}
 use mathlib.Core.List.{List, [], _∷_, _++_, List·Memᴰ, List·Memᴰ·head, List·Memᴰ·tail, Memᴰ·append-left, Memᴰ·append-right, Memᴰ·cast}
 use native.Mathlib.Omega.{arith}
 use lib.ListN.{length, getD, length-set}
@@ -12,7 +12,7 @@ use lib.Seq.{getD-set-same, getD-set-other}
 use Rattle.lists.proofs.DistinctLaws.{Distinct, Upto, distinct-left, distinct-right, distinct-apart}
 use Rattle.lists.proofs.PermLaws.{put-seam, put-perm, Perm, perm-sym, perm-trans, perm-cons, perm-append, perm-mem, perm-distinct}
 use Rattle.geometry.specs.declared.Side.{Side}
-use Rattle.geometry.specs.declared.Side.the-variants.{Left}
+use Rattle.geometry.specs.declared.Side.the-variants.{Left, Right}
 use Rattle.geometry.specs.Levels.{levels}
 use Rattle.geometry.specs.Region.{rootRegion}
 use Rattle.geometry.proofs.RegionLaws.{root-shape}
@@ -23,6 +23,7 @@ use Rattle.pool.specs.Cell.{grantAt, withCell}
 use Rattle.pool.specs.Fresh.{freeCell}
 use Rattle.pool.proofs.LayoutLaws.{field-set-header}
 use Rattle.pool.proofs.CellLaws.{SameGrantWords, length-withCell, field-withCell-same, field-withCell-other, header-withCell, grantAt-same}
+use Rattle.pool.proofs.FreeCellLaws.{Cleared, cleared-same, cleared-withCell}
 use Rattle.adt.specs.Node.{linkPlace}
 use Rattle.adt.specs.Search.{Spot}
 use Rattle.adt.specs.Insert.{freeHead}
@@ -75,6 +76,11 @@ module _ (x : List ℕ) {c k : ℕ} (long : length x ≡ poolLength c) (pos : 0 
   pub freed-words : (j : ℕ) → 0 < j → ¬ (j ≡ k) → SameGrantWords x (freed x k) j
   unfolding freed
   freed-words j hj n f h = field-set-header (emptied x k) freePlace j f k (omega arith) ∙ field-withCell-other x k (freeCell (freeHead x)) refl j f hj pos n
+
+  -- its words but left are 0
+  pub freed-cleared : Cleared (freed x k) k
+  unfolding freed
+  freed-cleared f h = field-set-header (emptied x k) freePlace k f k (omega arith) ∙ cleared-withCell x c k (freeHead x) pos le long f h
 
 pub record Removed (w v : List ℕ) (c : ℕ) (t : Tree) (k : ℕ) (ks : List ℕ) : Type 0 where
   pub tree : Tree
@@ -177,18 +183,30 @@ module _ {w : List ℕ} {c : ℕ} {t : Tree} {ks : List ℕ} {n at k : ℕ} {l r
         })
         (u .spells))
 
+    -- the cells that were free
+    free-bounds : (j : ℕ) → List·Memᴰ j ks → (0 < j) × (j ≤ c)
+    free-bounds j m = linked-upto h j (Memᴰ·append-right (cellsOf t) m)
+
+    free-other : (j : ℕ) → List·Memᴰ j ks → (i : ℕ) → List·Memᴰ i (cellsOf (node k l r)) → ¬ (j ≡ i)
+    free-other j m i o e = distinct-apart (cellsOf t) (linked-distinct h) i (part-cell i o) (Memᴰ·cast (sym e) m)
+
+    free-link : (j : ℕ) (s : Side) → List·Memᴰ j ks → getD (freed x k) (linkPlace j s) 0 ≡ getD w (linkPlace j s) 0
+    free-link j s m =
+        let b = free-bounds j m in
+        freed-link j s (b .0) (b .1) (free-other j m k own) ∙ u .links j s (b .0) (b .1) (λ i. free-other j m j i refl) (free-apart j m s)
+
     chain-new : FreeChain (freed x k) c (freeHead (freed x k)) (k ∷ ks)
     chain-new =
         rw (freed-freeHead x long (bounds .0) (bounds .1))
         (chain-more {ks = ks} (bounds .0) (bounds .1)
         (rw (freed-left x long (bounds .0) (bounds .1), u .header freePlace (omega arith) (omega arith))
-        (chain-frame
-        (λ j m.
-        let b = linked-upto h j (Memᴰ·append-right (cellsOf t) m) in
-        let out : (i : ℕ) → List·Memᴰ i (cellsOf (node k l r)) → ¬ (j ≡ i) =
-        λ i o e. distinct-apart (cellsOf t) (linked-distinct h) i (part-cell i o) (Memᴰ·cast (sym e) m) in
-        freed-link j Left (b .0) (b .1) (out k own) ∙ u .links j Left (b .0) (b .1) (λ i. out j i refl) (free-apart j m Left))
-        (h .free))))
+        (chain-frame (λ j m. free-link j Left m) (h .free))))
+
+    cleared-new : (j : ℕ) → List·Memᴰ j (k ∷ ks) → Cleared (freed x k) j
+    unfolding fieldOf
+    cleared-new j (List·Memᴰ·head e) = subst (Cleared (freed x k)) (sym e) (freed-cleared x long (bounds .0) (bounds .1))
+    cleared-new j (List·Memᴰ·tail m) =
+        cleared-same w (freed x k) j (free-link j Right m) (words-kept j (free-bounds j m .0) (free-other j m k own)) (h .cleared j m)
 
     cells-new : Perm (k ∷ cellsOf shrunk) (cellsOf t)
     unfolding shrunk
@@ -211,6 +229,7 @@ module _ {w : List ℕ} {c : ℕ} {t : Tree} {ks : List ℕ} {n at k : ℕ} {l r
         spells = exchanged-spells p (u .tree) refl (h .spells) kept-outside spells-new;
         free = chain-new;
         cells = perm-trans (h .cells) (perm-trans (perm-append ks (perm-sym cells-new)) (put-perm (put-seam (cellsOf shrunk) ks)));
+        cleared = cleared-new;
       };
       cells = cells-new;
       others = λ j m. grantAt-same w (freed x k) j (words-shrunk j m);

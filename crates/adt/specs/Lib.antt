@@ -5,5 +5,6 @@ pub mod Insert
 pub mod Remove
 pub mod Links
 pub mod Reach
+pub mod FreeHead
 pub mod SearchMemory
 pub mod WalkResult

@@ -5,8 +5,10 @@
 --   Once w k          exactly one path ends at the cell k
 --   regionOf p        the region of the cell at a path: the root's, halved link by link on the way. The cell is behind as many
 --                     cells as the path has steps.
+--   Carries w k g     the words of the cell k are those of the grant g; IsFree w k next: those of a free cell that leads to next
 --   Holds w c gs      the links reach each of the c cells once, and the cells reached from the root carry the grants gs,
---                     one each, each with its point in the region there, none behind more than 112 others
+--                     one each, each with its point in the region there, none behind more than 112 others; those reached from the
+--                     free head are free cells, each leading to the next
 -- Assumes nothing: these are definitions.
 use Prim.Native.Nat.{ℕ, zero, suc, _≤_, _<_}
 use mathlib.Core.Path.{_≡_}
@@ -24,6 +26,7 @@ use Rattle.geometry.specs.Point.{inside, pointOf}
 use Rattle.pool.specs.declared.Field.the-variants as field
 use Rattle.pool.specs.Layout.{rootPlace, freePlace, place}
 use Rattle.pool.specs.Cell.{grantWords}
+use Rattle.pool.specs.Fresh.{freeCell}
 use Rattle.adt.specs.Node.{linkPlace}
 use lib.Seq.{slice}
 
@@ -60,6 +63,10 @@ regionOf (s ∷ p) = half s (regionOf p) (axisOf (length p))
 abbrev pub Carries : List ℕ → ℕ → Grant → Type 0
 Carries w k g = slice (place k field.Number) (place (suc k) field.Left) w ≡ grantWords g
 
+-- the words of the cell k, all of them, are those of a free cell: next in left, zeros elsewhere
+abbrev pub IsFree : List ℕ → ℕ → ℕ → Type 0
+IsFree w k next = slice (place k field.Left) (place (suc k) field.Left) w ≡ freeCell next
+
 -- the cell at the path p, reached from the root, carries g
 pub record CarriedAt (w : List ℕ) (g : Grant) (p : List Side) : Type 0 where
   pub reached : 0 < nodeAt w p
@@ -72,3 +79,4 @@ pub record Holds (w : List ℕ) (c : ℕ) (gs : List Grant) : Type 0 where
   pub each : (g : Grant) → List·Memᴰ g gs → (p : List Side) × CarriedAt w g p × ((q : List Side) → CarriedAt w g q → q ≡ p)
   pub placed : (g : Grant) (p : List Side) → CarriedAt w g p → T (inside (regionOf p) (pointOf g))
   pub shallow : (p : List Side) → 0 < nodeAt w p → length p ≤ levels
+  pub free : (n : ℕ) → 0 < freeAt w n → IsFree w (freeAt w n) (freeAt w (suc n))

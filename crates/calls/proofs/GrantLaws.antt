@@ -1,5 +1,7 @@
 -- grant on words that stand for a plain book: it has the book's response, and the words then stand for what the book is then.
 --   grant-whole         no walk of grant is broken: 112 levels are enough
+--   Insertion h r       what an accepted grant inserts: its way down, and the words with the free head's cell hung there
+--   grant-inserts       so it is where the book's line has no cause
 --   insert-represents   the words with the grant added where its way leads
 --   grant-refines
 -- Assumes nothing.
@@ -29,7 +31,7 @@ use Rattle.geometry.specs.Point.{inside, pointOf}
 use Rattle.geometry.proofs.PointLaws.{numbers-differ}
 use Rattle.geometry.proofs.SearchRangeLaws.{all-hits}
 use Rattle.pool.specs.Cell.{grantAt}
-use Rattle.adt.specs.Insert.{freeBroken}
+use Rattle.adt.specs.Insert.{blankAt, freeBroken, inserted}
 use Rattle.adt.proofs.Spells.{cellsOf}
 use Rattle.adt.proofs.ChainLaws.{chain-none, freeBroken-chain}
 use Rattle.adt.proofs.DescentLaws.{Leads, descend-leads}
@@ -76,6 +78,14 @@ module _ {w v : List ℕ} {b : Book} {k : ℕ} {ks : List ℕ} {g : Grant} (h : 
     live = live-inserted done new (h .distinct) ∙ ap (insertBy grantNumber g) (h .live);
   }
 
+pub record Insertion {w : List ℕ} {b : Book} (h : Represents w b) (r : Request) : Type 0 where
+  pub link : ℕ
+  pub cell : ℕ
+  pub rest : List ℕ
+  pub way : insertionWalk w r ≡ blankAt link
+  pub linked : Linked w (b .capacity) (h .tree) (cell ∷ rest)
+  pub done : Inserted w (inserted w link (requested r)) (b .capacity) (h .tree) cell rest (requested r)
+
 module _ {w : List ℕ} {b : Book} (h : Represents w b) (r : Request) (fits : RequestFits r) where
   request-fits : GrantFits (requested r)
   request-fits = record { number = fits .number; rank = fits .rank; bounds = fits .bounds }
@@ -99,7 +109,7 @@ module _ {w : List ℕ} {b : Book} (h : Represents w b) (r : Request) (fits : Re
       go false f = rw (f refl .way) (freeBroken-chain w (represents-capacity h) (h .linked .free))
 
   -- the causes of the book's line
-  abbrev causes : List Cause
+  abbrev pub causes : List Cause
   causes =
       ZeroNumber if zeroNumber (r .number)
       ∷ UnknownKind if unknownKind (r .kind)
@@ -108,30 +118,52 @@ module _ {w : List ℕ} {b : Book} (h : Represents w b) (r : Request) (fits : Re
       ∷ Full if eqb (length (b .live)) (b .capacity)
       ∷ []
 
-  grant-order : firstFault (grantOrder w r (grantBroken w r) (hitsOf (numberSearch w (r .number)))) ≡ firstFault causes
+  pub grant-order : firstFault (grantOrder w r (grantBroken w r) (hitsOf (numberSearch w (r .number)))) ≡ firstFault causes
   unfolding grantOrder firstFault
   grant-order =
       rw (represents-pool h, grant-whole, numberLive-isLive h (r .number), chain-none (length (b .live)) (h .linked .free) (represents-count h))
 
-  granted : firstFault causes ≡ none → Represents (grantedWords w r (insertionWalk w r)) (withLive b (insertBy grantNumber (requested r) (b .live)))
-  granted e =
+  -- what the book's line says where it has no cause
+  record Taken : Type 0 where
+    some : ¬ (r .number ≡ 0)
+    upright : reversedBox (r .bounds) ≡ false
+    new : isLive b (r .number) ≡ false
+    room : ¬ (length (b .live) ≡ b .capacity)
+
+  taken : firstFault causes ≡ none → Taken
+  taken e =
       let zero = causes-absent _ _ e in
       let upright = causes-absent _ _ (causes-absent _ _ (zero .1) .1) in
       let new = causes-absent _ _ (upright .1) in
       let full = causes-absent _ _ (new .1) in
-      go (h .free) (h .linked) (represents-count h) (eqb-false (r .number) 0 (zero .0)) (upright .0) (new .0)
-      (eqb-false (length (b .live)) (b .capacity) (full .0))
+      record {
+        some = eqb-false (r .number) 0 (zero .0);
+        upright = upright .0;
+        new = new .0;
+        room = eqb-false (length (b .live)) (b .capacity) (full .0);
+      }
+
+  pub grant-inserts : firstFault causes ≡ none → Insertion h r
+  grant-inserts e = go (h .free) (h .linked) (represents-count h) (request-leads (taken e .new)) (taken e .room)
     where
-      go : (ks : List ℕ) → Linked w (b .capacity) (h .tree) ks → length (b .live) + length ks ≡ b .capacity → ¬ (r .number ≡ 0)
-          → reversedBox (r .bounds) ≡ false
-          → isLive b (r .number) ≡ false → ¬ (length (b .live) ≡ b .capacity)
-          → Represents (grantedWords w r (insertionWalk w r)) (withLive b (insertBy grantNumber (requested r) (b .live)))
-      go [] linked count some upright new room = absurd (omega arith)
-      go (k ∷ ks) linked count some upright new room =
-          let leads = request-leads new in
-          rw (leads .way)
-          (insert-represents h linked (insert-keeps-linked linked request-fits request-inside (leads .way)) request-fits (omega arith) upright
-          (not-live h (r .number) new))
+      go : (ks : List ℕ) → Linked w (b .capacity) (h .tree) ks → length (b .live) + length ks ≡ b .capacity → Leads w (pointOf (requested r)) (h .tree)
+          → ¬ (length (b .live) ≡ b .capacity) → Insertion h r
+      go [] linked count leads room = absurd (omega arith)
+      go (k ∷ ks) linked count leads room =
+          record {
+            link = leads .link;
+            cell = k;
+            rest = ks;
+            way = leads .way;
+            linked = linked;
+            done = insert-keeps-linked linked request-fits request-inside (leads .way);
+          }
+
+  granted : firstFault causes ≡ none → Represents (grantedWords w r (insertionWalk w r)) (withLive b (insertBy grantNumber (requested r) (b .live)))
+  granted e =
+      let t = taken e in
+      let i = grant-inserts e in
+      rw (i .way) (insert-represents h (i .linked) (i .done) request-fits (omega (arith, t .some)) (t .upright) (not-live h (r .number) (t .new)))
 
   pub grant-refines : Agrees Represents (grantCall w r) (bookGrant b r)
   unfolding grantCall bookGrant

@@ -1,5 +1,6 @@
 -- Words that stand for a plain book hold its live grants on one tree, as adt/specs/Reach says it.
 --   represents-carried     the cell at a path from the root carries the grant in it, which is live
+--   carried-cell           the cell that carries a grant is the one of its number in the tree
 --   represents-holds
 -- Assumes nothing.
 use Prim.Native.Nat.{ℕ, _<_}
@@ -18,6 +19,7 @@ use Rattle.adt.specs.Reach.{nodeAt, regionOf, Carries, CarriedAt, Holds}
 use Rattle.adt.proofs.Spells.{cellsOf}
 use Rattle.adt.proofs.TreeLaws.{cells-upto}
 use Rattle.adt.proofs.ReachLaws.{carries-one, linked-within, linked-once, linked-path, linked-reached, linked-same, linked-placed, linked-shallow}
+use Rattle.adt.proofs.FreeHeadLaws.{linked-free}
 use Rattle.calls.proofs.Represents.{grantNumber, Represents, represents-cell, represents-live, live-represents}
 
 module _ {w : List ℕ} {b : Book} (h : Represents w b) where
@@ -40,12 +42,16 @@ module _ {w : List ℕ} {b : Book} (h : Represents w b) where
   numbers-cells : Distinct (map (λ k. grantAt w k .number) (cellsOf (h .tree)))
   numbers-cells = rw (map-map grantNumber (grantAt w) (cellsOf (h .tree))) at (h .distinct)
 
+  pub carried-cell : {g : Grant} {p : List Side} → CarriedAt w g p → (k : ℕ) → List·Memᴰ k (cellsOf (h .tree)) → grantAt w k .number ≡ g .number
+      → nodeAt w p ≡ k
+  carried-cell {g} {p} c k m e =
+      distinct-key (λ k. grantAt w k .number) numbers-cells (nodeAt w p) k (linked-reached (h .linked) p (c .reached)) m
+      (sym (e ∙ ap grantNumber (carried-is c)))
+
   carried-same : {g : Grant} {p q : List Side} → CarriedAt w g p → CarriedAt w g q → q ≡ p
   carried-same {g} {p} {q} c d =
       linked-same (h .linked) p q (c .reached)
-      (distinct-key (λ k. grantAt w k .number) numbers-cells (nodeAt w q) (nodeAt w p)
-      (linked-reached (h .linked) q (d .reached)) (linked-reached (h .linked) p (c .reached))
-      (ap grantNumber (sym (carried-is d) ∙ carried-is c)))
+      (carried-cell d (nodeAt w p) (linked-reached (h .linked) p (c .reached)) (ap grantNumber (sym (carried-is c))))
 
   live-carried : (g : Grant) → List·Memᴰ g (b .live) → (p : List Side) × CarriedAt w g p
   live-carried g m =
@@ -65,4 +71,5 @@ module _ {w : List ℕ} {b : Book} (h : Represents w b) where
     each = λ g m. let o = live-carried g m in (o .0, o .1, λ q c. carried-same (o .1) c);
     placed = carried-placed;
     shallow = linked-shallow (h .linked);
+    free = linked-free (h .linked);
   }

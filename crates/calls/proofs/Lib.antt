@@ -12,6 +12,7 @@ pub mod LoadLaws
 pub mod MatchLaws
 pub mod AlikeLaws
 pub mod SoundLaws
+pub mod FreeHeadLaws
 pub mod LinkCauseLaws
 pub mod OrderLaws
 pub mod FewHitsLaws

@@ -1,5 +1,4 @@
 -- Grants in a row on words that stand for a plain book, and load (document 01, "The grants file").
---   bookOf c gs             the book of c cells that holds gs
 --   Grantable g             a grant that grant takes: its values fit, its number is not 0, its box is not reversed
 --   requested-requestOf     what grant adds of a grant that is asked for whole
 --   requestOf-fits          a grant that fits, as grant takes it
@@ -10,11 +9,11 @@
 --   set-represents          the set of a file, granted to a fresh index in any order
 --   load-set                what load answers and leaves, of the file of a set
 --   load-represents         the words then stand for the book that holds it
---   accepted-represents     so they do for every file that load accepts
+--   accepted-represents     so they do for the grants in every file that load accepts
 --   load-refuses            load of a file that is refused
 -- Assumes nothing.
 use Prim.Native.Nat.{ℕ, _+_, _≤_, _<_}
-use mathlib.Core.Path.{_≡_, refl, sym, ap, subst}
+use mathlib.Core.Path.{_≡_, refl, sym, ap}
 use mathlib.Core.Bool.{Bool, true, false, cond}
 use mathlib.Core.List.{List, [], _∷_, _++_, map, map-append, append-nil, List·Memᴰ, List·Memᴰ·head, List·Memᴰ·tail, Memᴰ·map, Memᴰ·cast, Memᴰ·append-right}
 use mathlib.Core.Option.{none, some}
@@ -39,13 +38,13 @@ use Rattle.model.specs.Refusal.{firstFault, refusing}
 use Rattle.model.specs.Answer.{accepted, refusal}
 use Rattle.model.specs.Call.{requested}
 use Rattle.model.specs.Values.{byteValues, Below, GrantFits, RequestFits}
-use Rattle.model.specs.Book.{Book, withLive, isLive, bookGrant}
+use Rattle.model.specs.Book.{Book, bookOf, withLive, isLive, bookGrant}
 use Rattle.model.specs.Histories.{Response}
 use Rattle.model.proofs.RefusalLaws.{causes-absent, firstFault-append, refusing-front, append-absent, accepted-none}
 use Rattle.pool.specs.Capacity.{capacityOf, wrongLength}
 use Rattle.pool.specs.Fresh.{freshPool}
 use Rattle.pool.proofs.CapacityLaws.{Sized, capacityOf-poolLength, wrongLength-iff}
-use Rattle.grants_file.specs.File.{fileOf, totalIn}
+use Rattle.grants_file.specs.File.{fileOf, totalIn, grantsIn}
 use Rattle.grants_file.specs.Verdict.{fileCauses}
 use Rattle.grants_file.specs.FileSets.{Accepted, FileSet, Ordering}
 use Rattle.grants_file.proofs.FileLaws.{totalIn-fileOf, grantsIn-fileOf}
@@ -57,10 +56,6 @@ use Rattle.calls.specs.FileCalls.{requestOf, grantAll, loadCall}
 use Rattle.calls.proofs.Represents.{grantNumber, Represents, represents-rises}
 use Rattle.calls.proofs.StartLaws.{represents-freshPool}
 use Rattle.calls.proofs.GrantLaws.{grant-refines}
-
--- the book of c cells that holds the grants gs
-abbrev pub bookOf : ℕ → List Grant → Book
-bookOf c gs = record { capacity = c; live = gs }
 
 pub record Grantable (g : Grant) : Type 0 where
   pub fits : GrantFits g
@@ -169,14 +164,13 @@ module _ {c : ℕ} (memory f : List ℕ) (z : Sized memory c) (below : Below byt
       let few = ltb-false (capacityOf memory) (totalIn f) (causes-absent _ _ (both .1) .0) in
       (both .0, rw (capacityOf-poolLength memory c (z .long)) at few)
 
-  pub accepted-represents : (gs : List Grant) × Represents (loadCall memory f .state) (bookOf c gs)
+  pub accepted-represents : Represents (loadCall memory f .state) (bookOf c (grantsIn f))
   accepted-represents = let set = accepted-files f below .0 (load-causes .0) in go (set .0) (set .1) (set .2) (set .3)
     where
-      go : (doors : Interval) (gs : List Grant) → FileSet doors gs → f ≡ fileOf doors gs
-          → (hs : List Grant) × Represents (loadCall memory f .state) (bookOf c hs)
+      go : (doors : Interval) (gs : List Grant) → FileSet doors gs → f ≡ fileOf doors gs → Represents (loadCall memory f .state) (bookOf c (grantsIn f))
       go doors gs s same =
           let room : length gs ≤ c = omega (arith, load-causes .1, ap totalIn same, totalIn-fileOf doors gs) in
-          (gs, subst (λ (x : List ℕ). Represents (loadCall memory x .state) (bookOf c gs)) (sym same) (load-represents s memory z room))
+          rw (same, grantsIn-fileOf doors gs) (load-represents s memory z room)
 
 pub load-refuses : (w f : List ℕ) (fault : Fault) → firstFault (fileCauses f) ≡ some fault
     → loadCall w f .answer ≡ cond (wrongLength w) (refusal BadPool) (refusal fault)

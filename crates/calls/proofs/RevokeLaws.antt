@@ -1,6 +1,8 @@
 -- revoke on words that stand for a plain book: it has the book's response, and the words then stand for what the book is then.
 --   FirstFound w n t s   the cell of the number n: the search s has it as its first hit, and knows where it hangs in the tree t
 --   first-found          so does the number's search, where the number is live
+--   Removal h n          what an accepted revoke removes: that cell, by the terminal cell that its removal walk found
+--   revoke-removes       so it is where the book's line has no cause
 --   revoke-whole         no walk of revoke is broken
 --   remove-represents    the words without a cell
 --   revoke-refines
@@ -30,7 +32,7 @@ use Rattle.pool.specs.Layout.{rootPlace}
 use Rattle.pool.specs.Cell.{grantAt}
 use Rattle.adt.specs.Node.{pointAt}
 use Rattle.adt.specs.Search.{Spot, Search}
-use Rattle.adt.specs.Remove.{terminal}
+use Rattle.adt.specs.Remove.{terminal, removed}
 use Rattle.adt.proofs.Spells.{Tree, cellsOf}
 use Rattle.adt.proofs.PartLaws.{HangsAt}
 use Rattle.adt.proofs.SearchLaws.{hitsIn, Finds}
@@ -72,6 +74,13 @@ pub record FirstFound (w : List ℕ) (n : ℕ) (t : Tree) (s : Search) : Type 0 
   pub place : firstSpotOf s ≡ spot
   pub hangs : HangsAt (suc levels) rootPlace t cell spot
   pub number : grantAt w cell .number ≡ n
+
+pub record Removal {w : List ℕ} {b : Book} (h : Represents w b) (n : ℕ) : Type 0 where
+  pub found : FirstFound w n (h .tree) (numberSearch w n)
+  pub leaf : ℕ
+  pub leafAt : ℕ
+  pub ends : removalOf w (numberSearch w n) ≡ terminal leaf leafAt
+  pub done : Removed w (removed w (found .cell) (found .spot .link) leaf leafAt) (b .capacity) (h .tree) (found .cell) (h .free)
 
 module _ {w : List ℕ} {b : Book} (h : Represents w b) (n : ℕ) where
   pub first-found : isLive b n ≡ true → FirstFound w n (h .tree) (numberSearch w n)
@@ -117,22 +126,32 @@ module _ {w : List ℕ} {b : Book} (h : Represents w b) (n : ℕ) where
       go false f = refl
 
   -- the causes of the book's line
-  abbrev causes : List Cause
+  abbrev pub causes : List Cause
   causes = ZeroNumber if zeroNumber n ∷ NotLive if not (isLive b n) ∷ []
 
-  revoke-order : firstFault (revokeOrder w n (revokeBroken w n) (hitsOf (numberSearch w n))) ≡ firstFault causes
+  pub revoke-order : firstFault (revokeOrder w n (revokeBroken w n) (hitsOf (numberSearch w n))) ≡ firstFault causes
   unfolding revokeOrder firstFault
   revoke-order = rw (represents-pool h, revoke-whole, numberLive-isLive h n)
+
+  pub revoke-removes : firstFault causes ≡ none → Removal h n
+  revoke-removes e =
+      let live = causes-absent _ _ (causes-absent _ _ e .1) in
+      let found = first-found (not-false (isLive b n) (live .0)) in
+      let ends = removal-ends found in
+      record {
+        found = found;
+        leaf = leaf found;
+        leafAt = leafAt found;
+        ends = ends;
+        done = remove-keeps-linked (h .linked) (found .hangs) (rw (found .first, found .place) at ends);
+      }
 
   revoked : firstFault causes ≡ none
       → Represents (revokedWords w (firstHit (numberSearch w n)) (firstSpotOf (numberSearch w n) .link) (removalOf w (numberSearch w n)))
       (withLive b (filter (λ g. not (eqb (g .number) n)) (b .live)))
   revoked e =
-      let live = causes-absent _ _ (causes-absent _ _ e .1) in
-      let found = first-found (not-false (isLive b n) (live .0)) in
-      let ends = removal-ends found in
-      rw (ends, found .first, found .place)
-      (rw (found .number) at (remove-represents h (remove-keeps-linked (h .linked) (found .hangs) (rw (found .first, found .place) at ends))))
+      let r = revoke-removes e in
+      rw (r .ends, r .found .first, r .found .place) (rw (r .found .number) at (remove-represents h (r .done)))
 
   pub revoke-refines : Agrees Represents (revokeCall w n) (bookRevoke b n)
   unfolding revokeCall bookRevoke

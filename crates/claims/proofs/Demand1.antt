@@ -2,7 +2,7 @@
 -- call but start, load, grant and revoke leaves the pool as it was.
 --   start-judged .. block-judged    one law for each call, of the type of its field in specs/Claims
 --   keeps-pool                      the field of that name
---   demand1                         the demand; its last field, that pools made by calls never give 9, stands in NeverBroken
+--   demand1                         the demand; its last field, that pools made by calls never give 9, is one of those that they keep (KeepsLaws)
 -- Assumes nothing.
 use Prim.Native.Nat.{ℕ, min}
 use mathlib.Core.Path.{_≡_, refl, ap}
@@ -31,8 +31,8 @@ use Rattle.calls.specs.Calls.{startCall, grantCall, revokeCall, listCall, decid
 use Rattle.calls.specs.FileCalls.{writeCall, loadCall, firstDifference, matchCall, blockCall}
 use Rattle.calls.proofs.LinkCauseLaws.{isBroken-links}
 use Rattle.calls.proofs.OrderLaws.{grantOrder-links, revokeOrder-links, listOrder-links, writeOrder-links}
-use Rattle.claims.specs.Claims.{Demand1}
-use Rattle.claims.proofs.NeverBroken.{made-never-broken}
+use Rattle.claims.specs.Claims.{MadePools, Demand1}
+use Rattle.claims.proofs.KeepsLaws.{made-pools}
 
 -- an answer that is no refusal
 abbrev Taken : Answer → Type 0
@@ -129,6 +129,7 @@ keeps-pool w q doors lent f staff door quarter = (
 )
 
 pub demand1 : Demand1
+unfolding MadePools
 demand1 =
     record {
       start = start-judged;
@@ -142,5 +143,5 @@ demand1 =
       «match» = match-judged;
       block = block-judged;
       keeps-pool = keeps-pool;
-      never-broken = made-never-broken;
+      never-broken = λ c w gs made. made-pools c w gs made .never-broken;
     }

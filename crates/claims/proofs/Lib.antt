@@ -5,8 +5,8 @@ pub mod Pools
 pub mod LinkCases
 pub mod FaultCases
 pub mod TriedCases
-pub mod Answers
-pub mod NeverBroken
+pub mod MadeLaws
+pub mod KeepsLaws
 pub mod Demand1
 pub mod Demand2
 pub mod Demand3

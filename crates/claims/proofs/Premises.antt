@@ -7,7 +7,8 @@
 --   block-met, refused-met         a block of records, and a refused block, in Demand2 .parts and .refused-parts
 --   list-met                       list's answer in Demand2 .lists
 --   room-met, inside-met           cells enough, and a door inside the range, in Demand3 .loads
---   load-met, made-met             load's answer, and Made in both its cases
+--   load-met, made-met, call-met   load's answer, and Made in its three cases
+--   granted-met, revoked-met, carried-met   the accepted grant, the accepted revoke and the carried grant in UsesFreeHead
 -- Assumes nothing.
 use Prim.Native.Nat.{ℕ, _≤_, _<_}
 use mathlib.Core.Logic.{_≢_}
@@ -32,24 +33,30 @@ use Rattle.model.specs.Grant.{touches}
 use Rattle.model.specs.Answer.{accepted}
 use Rattle.model.specs.Refusal.{firstFault, refusing}
 use Rattle.model.specs.Arguments.{reversedBox}
-use Rattle.model.specs.Call.{Call, grant}
+use Rattle.model.specs.Call.{Call, grant, revoke}
 use Rattle.model.specs.Values.{wordValues, byteValues, Below, GrantFits, CallFits, CallsFit}
-use Rattle.model.specs.Book.{bookGrant, bookList, bookStep}
+use Rattle.model.specs.Book.{bookOf, bookGrant, bookRevoke, bookList, bookStep}
 use Rattle.model.specs.Histories.{Response, after}
 use Rattle.model.proofs.AnswerLaws.{refusal-accepted}
+use Rattle.geometry.specs.declared.Side.{Side}
+use Rattle.adt.specs.Reach.{CarriedAt}
 use Rattle.grants_file.specs.Block.{sealed, headerBlock}
-use Rattle.grants_file.specs.File.{fileOf, blocksIn, wrongBlockCount}
+use Rattle.grants_file.specs.File.{fileOf, blocksIn, grantsIn, wrongBlockCount}
 use Rattle.grants_file.specs.BlockRead.{notInFile, readCauses}
 use Rattle.grants_file.specs.FileSets.{Accepted, DoorRange, ascending-none, ascending-more, FileSet, Ordering}
 use Rattle.grants_file.proofs.FileLaws.{length-fileOf, fileOf-below}
 use Rattle.grants_file.proofs.VerdictLaws.{fileOf-accepted}
-use Rattle.calls.specs.Calls.{listCall, wordsStep}
+use Rattle.calls.specs.Calls.{startCall, grantCall, revokeCall, listCall, wordsStep}
 use Rattle.calls.specs.FileCalls.{requestOf, loadCall, blockCall}
 use Rattle.calls.proofs.QueryLaws.{list-refines}
+use Rattle.calls.proofs.GrantLaws.{grant-refines}
+use Rattle.calls.proofs.RevokeLaws.{revoke-refines}
+use Rattle.calls.proofs.HoldsLaws.{represents-holds}
 use Rattle.calls.proofs.LoadLaws.{requestOf-fits}
-use Rattle.claims.specs.Claims.{Memory, wordsAfter, liveAfter, touching, Made, made-start, made-load}
-use Rattle.claims.proofs.Answers.{calls-represent}
-use Rattle.claims.proofs.Demand2.{loads}
+use Rattle.claims.specs.Made.{Memory, Made, made-start, made-load, made-call}
+use Rattle.claims.specs.KeepsGrants.{touching}
+use Rattle.claims.specs.Claims.{wordsAfter, liveAfter}
+use Rattle.claims.proofs.MadeLaws.{made-represents, made-calls, set-accepted}
 
 abbrev box : ℕ → ℕ → ℕ → ℕ → ℕ → ℕ → Box
 box a b c d e f =
@@ -138,7 +145,7 @@ refused-met e = refusal-accepted BadLength [] e
 
 pub list-met : listCall (wordsAfter memory calls) (box 0 65535 1 40 0 65535) (0 ∷ []) .answer ≡ accepted (1 ∷ [])
 unfolding after bookStep bookGrant bookList refusing firstFault insertBy filter any overlaps reversedBox
-list-met = ap (λ (t : Response). t .answer) (list-refines (calls-represent memory-met calls calls-met) (box 0 65535 1 40 0 65535) (0 ∷ []) .same)
+list-met = ap (λ (t : Response). t .answer) (list-refines (made-represents (made-calls memory-met calls calls-met)) (box 0 65535 1 40 0 65535) (0 ∷ []) .same)
 
 pub room-met : length (touching doors (liveAfter 2 calls)) ≤ 2
 unfolding after bookStep bookGrant refusing firstFault insertBy filter any reversedBox
@@ -148,7 +155,29 @@ pub inside-met : T (holds doors 45)
 inside-met = tt
 
 pub load-met : loadCall memory (fileOf doors grants) .answer ≡ accepted []
-load-met = loads doors grants 2 memory set-met memory-met (omega arith) .0
+load-met = set-accepted set-met memory-met (omega arith)
 
-pub made-met : Made 2 (wordsAfter memory calls) × Made 2 (after wordsStep (loadCall memory (fileOf doors grants) .state) calls)
-made-met = (made-start memory-met calls-met, made-load memory-met bytes-met load-met calls-met)
+-- start, load, and a call after it
+pub made-met : Made 2 (startCall memory .state) [] × Made 2 (loadCall memory (fileOf doors grants) .state) (grantsIn (fileOf doors grants))
+made-met = (made-start memory-met, made-load memory-met bytes-met load-met)
+
+pub call-met : let w = loadCall memory (fileOf doors grants) .state in
+    let b = bookOf 2 (grantsIn (fileOf doors grants)) in
+    Made 2 (wordsStep w (revoke 7) .state) (bookStep b (revoke 7) .state .live)
+call-met = made-call (revoke 7) tt (made-met .1)
+
+-- on the fresh index a grant is accepted; after the calls a revoke is, of a grant that a cell carries
+pub granted-met : grantCall (startCall memory .state) (requestOf seven) .answer ≡ accepted []
+unfolding bookGrant refusing firstFault any reversedBox
+granted-met =
+    ap (λ (t : Response). t .answer) (grant-refines (made-represents (made-start memory-met)) (requestOf seven) (calls-met _ (List·Memᴰ·head refl)) .same)
+
+pub revoked-met : revokeCall (wordsAfter memory calls) 7 .answer ≡ accepted []
+unfolding after bookStep bookGrant bookRevoke refusing firstFault insertBy any reversedBox
+revoked-met = ap (λ (t : Response). t .answer) (revoke-refines (made-represents (made-calls memory-met calls calls-met)) 7 .same)
+
+pub carried-met : (p : List Side) × CarriedAt (wordsAfter memory calls) seven p × (seven .number ≡ 7)
+unfolding after bookStep bookGrant refusing firstFault insertBy any reversedBox
+carried-met =
+    let o = represents-holds (made-represents (made-calls memory-met calls calls-met)) .each seven (List·Memᴰ·head refl) in
+    (o .0, o .1, refl)

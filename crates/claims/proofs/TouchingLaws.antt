@@ -1,7 +1,7 @@
 -- On words that stand for a plain book, the panel shows the live grants that hold the door and the quarter.
 --   grants-touching    they are what the search hits, ascending by number
 --   shows-touching     and what is shown row by row
---   touching-claim     so it is after any calls (specs/PanelClaims)
+--   touching-claim     so it is on every pool that calls made (specs/PanelClaims)
 -- Assumes nothing.
 use Prim.Native.Nat.{ℕ}
 use mathlib.Core.Path.{_≡_, refl, ap, _∙_}
@@ -20,8 +20,7 @@ use Rattle.geometry.proofs.SearchRangeLaws.{box-hits}
 use Rattle.calls.specs.Walks.{boxSearch}
 use Rattle.calls.specs.Order.{lookOrder}
 use Rattle.calls.proofs.Represents.{Represents, represents-pool, represents-live, represents-fits, Hits, represents-hits}
-use Rattle.calls.proofs.LoadLaws.{load-represents}
-use Rattle.claims.proofs.Answers.{represents-calls, memory-sized, calls-represent}
+use Rattle.claims.proofs.MadeLaws.{made-represents}
 use Rattle.panel.specs.Touching.{doorBox, grantsTouching, placed, touchingAt}
 use Rattle.claims.specs.PanelClaims.{atDoor, ShowsTouching, TouchingClaim}
 
@@ -50,9 +49,5 @@ module _ {w : List ℕ} {b : Book} (h : Represents w b) where
       rw (represents-pool h, found door quarter .whole) (ap (λ (gs : List Grant). placed gs i) (grants-touching door quarter))
 
 pub touching-claim : TouchingClaim
-touching-claim =
-    record {
-      started = λ c memory calls m fit. shows-touching (calls-represent m calls fit);
-      loaded = λ doors gs c memory calls s m room fit.
-          shows-touching (represents-calls (load-represents s memory (memory-sized m) room) calls fit .1);
-    }
+unfolding TouchingClaim
+touching-claim c w gs made = shows-touching (made-represents made)

@@ -1,4 +1,6 @@
--- The claims: demands 1 to 3.
+-- The claims: demands 1 to 3, and what C, slips, journals and the panel show.
+pub mod Made
+pub mod KeepsGrants
 pub mod Claims
 pub mod SlipClaims
 pub mod JournalClaims

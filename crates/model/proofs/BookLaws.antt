@@ -1,5 +1,5 @@
 -- What every step of the plain book keeps, and what it never answers.
---   bookStep-capacity, after-capacity      C stays
+--   bookStep-capacity                      C stays
 --   bookStep-sound                         neither fault 1 nor fault 9
 --   bookList-writes                        what an accepted list wrote
 --   bookList-same, bookDecide-same         what list and decide tell goes by the grants that overlap alone
@@ -24,7 +24,7 @@ use Rattle.model.specs.Refusal.{Cause, Step, firstFault, stepBy, refusin
 use Rattle.model.specs.Decide.{decidingOf, decisionOf, decideAmong}
 use Rattle.model.specs.Call.{Call, grant, revoke, list, decide, count}
 use Rattle.model.specs.Book.{Book, overlapping, bookGrant, bookRevoke, bookList, bookDecide, bookCount, bookStep}
-use Rattle.model.specs.Histories.{responseOf, after}
+use Rattle.model.specs.Histories.{responseOf}
 use Rattle.model.proofs.RefusalLaws.{accepted-done}
 use Rattle.model.proofs.Simulation.{Agrees, refusing-agrees}
 use Rattle.model.proofs.SoundLaws.{soundAnswer, refusing-sound}
@@ -45,11 +45,6 @@ bookStep-capacity b (revoke n) = refusing-capacity _ b [] _ refl
 bookStep-capacity b (list q lent) = refusing-capacity _ b lent _ refl
 bookStep-capacity b (decide staff door quarter) = refl
 bookStep-capacity b count = refl
-
-pub after-capacity : (b : Book) (cs : List Call) → after bookStep b cs .capacity ≡ b .capacity
-unfolding after
-after-capacity b [] = refl
-after-capacity b (c ∷ cs) = after-capacity (bookStep b c .state) cs ∙ bookStep-capacity b c
 
 decision-sound : (k : Kind) (g : Grant) → soundAnswer (decisionAnswer (decisionOf k g)) ≡ true
 decision-sound Bars g = refl

@@ -1,5 +1,6 @@
 -- Document 01's plain book: C and the live grants, ascending by number, and what each call does to them.
---   Book, emptyBook      the state, and the one it starts with
+--   Book, bookOf c gs    the state: C, and the live grants
+--   emptyBook c          the one it starts with
 --   bookGrant .. bookCount   one definition a call: its refusals in document 01's order, then what it gives
 --   bookStep b c         the step of a call
 -- The book never gives 1 or 9. Assumes nothing: these are definitions.
@@ -26,8 +27,11 @@ pub record Book : Type 0 where
   pub capacity : ℕ
   pub live : List Grant
 
+abbrev pub bookOf : ℕ → List Grant → Book
+bookOf c gs = record { capacity = c; live = gs }
+
 abbrev pub emptyBook : ℕ → Book
-emptyBook c = record { capacity = c; live = [] }
+emptyBook c = bookOf c []
 
 abbrev pub withLive : Book → List Grant → Book
 withLive b gs = record { capacity = b .capacity; live = gs }

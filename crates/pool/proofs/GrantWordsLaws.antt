@@ -1,6 +1,7 @@
 -- The words of a cell from the number on, as a part of the pool.
 --   fieldWords w k            the cell's fields from the number on
 --   slice-fieldWords          they are that part of the pool
+--   slice-cell                the whole cell, with its links
 --   fieldWords-same           where the words are the same
 --   fieldWords-withCell       of a cell that was stored
 -- Assumes nothing.
@@ -12,7 +13,7 @@ use lib.ListN.{length, getD}
 use lib.Seq.{slice, slice-empty, slice-cons}
 use Rattle.model.specs.declared.Grant.{Grant}
 use Rattle.pool.specs.declared.Field.{Field}
-use Rattle.pool.specs.declared.Field.the-variants.{Left, Number, RankKind, StaffFrom, StaffTo, DoorFrom, DoorTo, QuarterFrom, QuarterTo}
+use Rattle.pool.specs.declared.Field.the-variants.{Left, Right, Number, RankKind, StaffFrom, StaffTo, DoorFrom, DoorTo, QuarterFrom, QuarterTo}
 use Rattle.pool.specs.Layout.{offset, place, fieldOf}
 use Rattle.pool.specs.Capacity.{poolLength}
 use Rattle.pool.specs.Cell.{grantWords, cellOf, withCell}
@@ -67,6 +68,10 @@ module _ (w : List ℕ) (c k : ℕ) (pos : 0 < k) (le : k ≤ c) (long : length 
         slice-field QuarterTo (place (suc k) Left) last,
         slice-empty (place (suc k) Left) w,
       ) refl
+
+  pub slice-cell : slice (place k Left) (place (suc k) Left) w ≡ fieldOf w k Left ∷ fieldOf w k Right ∷ fieldWords w k
+  slice-cell =
+      rw (slice-field Left (place k Right) (next Left Right refl), slice-field Right (place k Number) (next Right Number refl), slice-fieldWords) refl
 
 pub fieldWords-same : (w v : List ℕ) (k : ℕ) → SameGrantWords w v k → fieldWords v k ≡ fieldWords w k
 fieldWords-same w v k same =

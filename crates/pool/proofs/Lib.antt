@@ -7,3 +7,4 @@ pub mod CapacitySteps
 pub mod FreshLaws
 pub mod FreshSteps
 pub mod GrantWordsLaws
+pub mod FreeCellLaws
