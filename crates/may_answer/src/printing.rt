@@ -1,12 +1,10 @@
 // The answer to `may` (specs/MayText), put piece by piece at a place of a lent line that has room for it. Each function answers the next
 // place; any question and any decision is taken.
 ghost use mathlib.Core.Path.{_≡_};
-ghost use mathlib.Core.List.{_++_};
 ghost use Prim.Native.Nat.{_+_, _≤_};
 ghost use lib.ListN.{length, take};
-ghost use Rattle.text.specs.Numeral.{numeral};
 ghost use Rattle.text.specs.Put.{Put, Counts};
-ghost use Rattle.may_answer.specs.MayText.{questionText, decidingText, decisionText, mayText};
+ghost use Rattle.may_answer.specs.MayText.{numbered, questionText, decidingText, decisionText, mayText};
 use calendar::Base;
 use model::Decision;
 use model::Grant;
@@ -24,7 +22,7 @@ pub const ANSWER_BYTES: usize = 271;
 // A text and a number behind it.
 fn put_numbered(out: &mut [u8], at: usize, text: &[u8], n: u16) -> usize
     requires { ⌜ at + length (now text) + 5 ≤ length (now out) ⌝ }
-    ensures { λ r. ⌜ Put (now (out .entry)) at (now (text .entry) ++ numeral n) r (now (out .exit)) × (r ≤ at + length (now (text .entry)) + 5) ⌝ }
+    ensures { λ r. ⌜ Put (now (out .entry)) at (numbered (now (text .entry)) n) r (now (out .exit)) × (r ≤ at + length (now (text .entry)) + 5) ⌝ }
 {
     let next = put_text(out, at, text);
     put_number(out, next, n as usize)
@@ -44,7 +42,7 @@ fn put_question(out: &mut [u8], staff: u16, door: u16, quarter: u16, base: Base)
 // The grant that decides, behind the word for its kind.
 fn put_deciding(out: &mut [u8], at: usize, word: &[u8], g: Grant, base: Base) -> usize
     requires { ⌜ at + length (now word) + 195 ≤ length (now out) ⌝ }
-    ensures { λ r. ⌜ Put (now (out .entry)) at (now (word .entry) ++ decidingText g base) r (now (out .exit))
+    ensures { λ r. ⌜ Put (now (out .entry)) at (decidingText (now (word .entry)) g base) r (now (out .exit))
         × (r ≤ at + length (now (word .entry)) + 195) ⌝ }
 {
     let first = put_numbered(out, at, word, g.number);
