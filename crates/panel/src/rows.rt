@@ -89,6 +89,14 @@ pub fn put_heads(out: &mut [u8], at: usize) -> usize
     )
 }
 
+// The same, from the start of a line.
+pub fn heads_row(out: &mut [u8; ROW_BYTES]) -> usize
+    ensures { λ r. ⌜ take r (now (out .exit)) ≡ grantHeads ⌝ }
+    ensures { λ r. ⌜ Counts r (now (out .exit)) ⌝ }
+{
+    put_heads(out, 0)
+}
+
 // A grant in that table.
 pub fn put_row(out: &mut [u8], at: usize, g: Grant) -> usize
     requires { ⌜ at + 72 ≤ length (now out) ⌝ }
