@@ -16,6 +16,7 @@ pub mod MarkedSession
 pub mod Journals
 pub mod ReplayLaws
 pub mod TouchingLaws
+pub mod AttendantLaws
 pub mod PackedFaultLaws
 pub mod PackedFitLaws
 pub mod PackedReadLaws

@@ -1,53 +1,29 @@
-// The panel's screen of whether a staff number may open a door at a quarter, with the whole grant that decides.
+// The panel's answer of whether a staff number may open a door at a quarter: decide is asked, and its answer printed as one text (may_answer).
 use crate::common::say_fault;
-use crate::common::say_quarter;
-use crate::table::say_grant;
-use crate::table::say_heads;
 use calendar::Base;
 use console::output::end;
 use console::output::say;
-use console::output::say_number;
+use may_answer::printing::ANSWER_BYTES;
+use may_answer::printing::may_text;
 use model::Decision;
-use model::Grant;
-use panel::rows::ROW_BYTES;
-use panel::rows::times_row;
 use queries::decide::decide;
 
-// The whole grant that decides.
-fn say_deciding(base: Base, g: Grant) {
-    say_number(g.number as usize);
-    say(b"\n");
-    say_heads();
-    say_grant(g);
-    let mut out = [0u8; ROW_BYTES];
-    let n = times_row(g, base, &mut out);
-    say(&out[..n]);
-    end(b"\n");
-}
-
-fn say_decision(base: Base, decision: Decision) {
+// The answer's bytes; a refusal's sentence follows them.
+fn say_answer(text: &[u8], decision: Decision) {
     match decision {
-        Decision::Opens(g) => {
-            say(b": OPENS, by grant ");
-            say_deciding(base, g);
-        }
-        Decision::Barred(g) => {
-            say(b": BARRED, by grant ");
-            say_deciding(base, g);
-        }
-        Decision::None => end(b": NO GRANT, do not open\n\n"),
+        Decision::Opens(_) => end(text),
+        Decision::Barred(_) => end(text),
+        Decision::None => end(text),
         Decision::Refused(f) => {
-            say(b"\n");
+            say(text);
             say_fault(f);
         }
     }
 }
 
 pub fn say_may(pool: &[u16], base: Base, staff: u16, door: u16, quarter: u16) {
-    say(b"staff ");
-    say_number(staff as usize);
-    say(b", door ");
-    say_number(door as usize);
-    say_quarter(base, quarter);
-    say_decision(base, decide(pool, staff, door, quarter));
+    let decision = decide(pool, staff, door, quarter);
+    let mut out = [0u8; ANSWER_BYTES];
+    let n = may_text(staff, door, quarter, base, decision, &mut out);
+    say_answer(&out[..n], decision);
 }

@@ -1,4 +1,5 @@
 -- A grant as a line of a table, and the days and times that the panel shows.
+--   grantHeads                    the heads of the columns of grantRow
 --   grantRow g                    number, rank, staff, doors and quarters, then `opens` or `bars`
 --   touchingRow g precedence base   number, rank, staff and last quarter, when the grant ends, `opens` or `bars`, then how far it stands
 --   momentNote base q             the day and time at which a quarter starts, to stand behind its number
@@ -52,6 +53,9 @@ noteAfter (Day d) q = ascii " (" ++ momentText d q ++ ascii ")"
 abbrev pub timesFrom : Base → Grant → List ℕ
 timesFrom Unknown g = []
 timesFrom (Day d) g = line (ascii "from " ++ momentText d (g .bounds .«quarter_from») ++ ascii " until " ++ momentText d (endOf g))
+
+abbrev pub grantHeads : List ℕ
+grantHeads = line (ascii "  number    rank   staff      to   doors      to quarter      to  does")
 
 abbrev pub grantRow : Grant → List ℕ
 grantRow g = line (columns (g .number ∷ g .rank ∷ boxValues (g .bounds)) ++ ascii "  " ++ kindText (g .kind))

@@ -1,5 +1,5 @@
-// A grant as a line of a table, and the days and times beside it (specs/Rows), put from the start of a lent line.
-// Each public function answers how many bytes it put; any grant and any base day is taken.
+// A grant as a line of a table, and the days and times beside it (specs/Rows), put at a place of a lent line that has room for them.
+// Each function answers the next place; any grant and any base day is taken.
 ghost use mathlib.Core.Path.{_≡_};
 ghost use Prim.Native.Nat.{_+_, _≤_};
 ghost use lib.ListN.{length, take};
@@ -7,7 +7,7 @@ ghost use Rattle.model.specs.Values.{wordValues};
 ghost use Rattle.text.specs.Put.{Put, Counts};
 ghost use Rattle.calendar.specs.Calendar.{lastYear};
 ghost use Rattle.calendar.specs.Moment.{momentBytes};
-ghost use Rattle.panel.specs.Rows.{shownBase, kindText, precedenceText, momentColumn, noteAfter, timesFrom, grantRow, touchingRow, momentNote, timesRow};
+ghost use Rattle.panel.specs.Rows.{shownBase, kindText, precedenceText, momentColumn, noteAfter, timesFrom, grantHeads, grantRow, touchingRow, momentNote, timesRow};
 use calendar::Base;
 use calendar::Date;
 use calendar::moment::put_moment;
@@ -77,10 +77,30 @@ fn put_moment_column(out: &mut [u8], at: usize, base: Base, quarter: usize) -> u
     }
 }
 
-// A grant in the table of all grants.
-pub fn grant_row(g: Grant, out: &mut [u8; ROW_BYTES]) -> usize
-    ensures { λ r. ⌜ take r (now (out .exit)) ≡ grantRow g ⌝ }
+// The heads of the table of all grants.
+pub fn put_heads(out: &mut [u8], at: usize) -> usize
+    requires { ⌜ at + 71 ≤ length (now out) ⌝ }
+    ensures { λ r. ⌜ Put (now (out .entry)) at grantHeads r (now (out .exit)) × (r ≡ at + 71) ⌝ }
+{
+    put_text(
+        out,
+        at,
+        b"  number    rank   staff      to   doors      to quarter      to  does\n",
+    )
+}
+
+// The same, from the start of a line.
+pub fn heads_row(out: &mut [u8; ROW_BYTES]) -> usize
+    ensures { λ r. ⌜ take r (now (out .exit)) ≡ grantHeads ⌝ }
     ensures { λ r. ⌜ Counts r (now (out .exit)) ⌝ }
+{
+    put_heads(out, 0)
+}
+
+// A grant in that table.
+pub fn put_row(out: &mut [u8], at: usize, g: Grant) -> usize
+    requires { ⌜ at + 72 ≤ length (now out) ⌝ }
+    ensures { λ r. ⌜ Put (now (out .entry)) at (grantRow g) r (now (out .exit)) × (r ≤ at + 72) ⌝ }
 {
     let b = g.bounds;
     let kind = g.kind;
@@ -94,10 +114,18 @@ pub fn grant_row(g: Grant, out: &mut [u8; ROW_BYTES]) -> usize
         b.quarter_from,
         b.quarter_to,
     ];
-    let gap = put_columns(out, 0, &values);
+    let gap = put_columns(out, at, &values);
     let word = put_text(out, gap, b"  ");
     let end = put_kind(out, word, kind);
     put_byte(out, end, b'\n')
+}
+
+// The same, from the start of a line.
+pub fn grant_row(g: Grant, out: &mut [u8; ROW_BYTES]) -> usize
+    ensures { λ r. ⌜ take r (now (out .exit)) ≡ grantRow g ⌝ }
+    ensures { λ r. ⌜ Counts r (now (out .exit)) ⌝ }
+{
+    put_row(out, 0, g)
 }
 
 // A grant in the table of those that touch a door and a quarter: who may open it, until when, and how far that stands.
@@ -129,36 +157,42 @@ pub fn touching_row(
 }
 
 // A quarter's day and time, from a base day that can be shown.
-fn print_note(base: Date, quarter: usize, out: &mut [u8; ROW_BYTES]) -> usize
-    requires { ⌜ (base .year ≤ lastYear) × (quarter ≤ wordValues) ⌝ }
-    ensures { λ r. ⌜ take r (now (out .exit)) ≡ noteAfter (Base.Day base) quarter ⌝ }
-    ensures { λ r. ⌜ Counts r (now (out .exit)) ⌝ }
+fn put_note_from(out: &mut [u8], at: usize, base: Date, quarter: usize) -> usize
+    requires { ⌜ (at + 19 ≤ length (now out)) × (base .year ≤ lastYear) × (quarter ≤ wordValues) ⌝ }
+    ensures { λ r. ⌜ Put (now (out .entry)) at (noteAfter (Base.Day base) quarter) r (now (out .exit)) × (r ≡ at + 19) ⌝ }
 {
-    let at = put_text(out, 0, b" (");
-    let end = put_moment(out, at, base, quarter);
+    let moment = put_text(out, at, b" (");
+    let end = put_moment(out, moment, base, quarter);
     put_byte(out, end, b')')
 }
 
 // The day and time at which a quarter starts, to stand behind its number; nothing where no base day is known.
+pub fn put_note(out: &mut [u8], at: usize, base: Base, quarter: u16) -> usize
+    requires { ⌜ at + 19 ≤ length (now out) ⌝ }
+    ensures { λ r. ⌜ Put (now (out .entry)) at (momentNote base quarter) r (now (out .exit)) × (r ≤ at + 19) ⌝ }
+{
+    let shown = shown_base(base);
+    match shown {
+        Base::Unknown => at,
+        Base::Day(d) => put_note_from(out, at, d, wide(quarter)),
+    }
+}
+
+// The same, from the start of a line.
 pub fn moment_text(base: Base, quarter: u16, out: &mut [u8; ROW_BYTES]) -> usize
     ensures { λ r. ⌜ take r (now (out .exit)) ≡ momentNote base quarter ⌝ }
     ensures { λ r. ⌜ Counts r (now (out .exit)) ⌝ }
 {
-    let shown = shown_base(base);
-    match shown {
-        Base::Unknown => 0,
-        Base::Day(d) => print_note(d, wide(quarter), out),
-    }
+    put_note(out, 0, base, quarter)
 }
 
 // When a grant holds, from a base day that can be shown.
-fn print_times(base: Date, g: Grant, out: &mut [u8; ROW_BYTES]) -> usize
-    requires { ⌜ base .year ≤ lastYear ⌝ }
-    ensures { λ r. ⌜ take r (now (out .exit)) ≡ timesFrom (Base.Day base) g ⌝ }
-    ensures { λ r. ⌜ Counts r (now (out .exit)) ⌝ }
+fn put_times_from(out: &mut [u8], at: usize, base: Date, g: Grant) -> usize
+    requires { ⌜ (at + 45 ≤ length (now out)) × (base .year ≤ lastYear) ⌝ }
+    ensures { λ r. ⌜ Put (now (out .entry)) at (timesFrom (Base.Day base) g) r (now (out .exit)) × (r ≡ at + 45) ⌝ }
 {
     let b = g.bounds;
-    let from = put_text(out, 0, b"from ");
+    let from = put_text(out, at, b"from ");
     let gap = put_moment(out, from, base, wide(b.quarter_from));
     let until = put_text(out, gap, b" until ");
     let end = put_moment(out, until, base, quarter_after(b.quarter_to));
@@ -166,13 +200,13 @@ fn print_times(base: Date, g: Grant, out: &mut [u8; ROW_BYTES]) -> usize
 }
 
 // From when until when a grant holds; nothing where no base day is known.
-pub fn times_row(g: Grant, base: Base, out: &mut [u8; ROW_BYTES]) -> usize
-    ensures { λ r. ⌜ take r (now (out .exit)) ≡ timesRow g base ⌝ }
-    ensures { λ r. ⌜ Counts r (now (out .exit)) ⌝ }
+pub fn put_times(out: &mut [u8], at: usize, g: Grant, base: Base) -> usize
+    requires { ⌜ at + 45 ≤ length (now out) ⌝ }
+    ensures { λ r. ⌜ Put (now (out .entry)) at (timesRow g base) r (now (out .exit)) × (r ≤ at + 45) ⌝ }
 {
     let shown = shown_base(base);
     match shown {
-        Base::Unknown => 0,
-        Base::Day(d) => print_times(d, g, out),
+        Base::Unknown => at,
+        Base::Day(d) => put_times_from(out, at, d, g),
     }
 }

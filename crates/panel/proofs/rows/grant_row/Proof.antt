@@ -1,56 +1,15 @@
--- `rows::grant_row` meets its contract: piece by piece. Assumes nothing.
+-- `rows::grant_row` meets its contract. Assumes nothing.
 use native.Mathlib.Omega.{arith}
-use Rattle.text.proofs.PutLaws.{put-then, put-line}
+use Rattle.text.proofs.PutLaws.{put-line}
 use borrow.Author.Needs.{needs}
 use Rattle.panel.proofs.rows.grant_row.Statement.{statement}
 use Rattle.panel.proofs.rows.grant_row.Tie as tie
 
-cast-t10 : tie.Need-cast-t10
-cast-t10 c = search needs
-
-slice-aggregate-put-columns : tie.Need-slice-aggregate-put-columns
-slice-aggregate-put-columns c = search needs
-
-put-columns-requires : tie.Need-put-columns-requires
-put-columns-requires c κs = search needs
-
-slice-aggregate-put-text : tie.Need-slice-aggregate-put-text
-slice-aggregate-put-text c = search needs
-
-put-text-requires : tie.Need-put-text-requires
-put-text-requires c κs = search needs
-
-put-kind-requires : tie.Need-put-kind-requires
-put-kind-requires c κs = search needs
-
-put-byte-requires : tie.Need-put-byte-requires
-put-byte-requires c κs = search needs
+put-row-requires : tie.Need-put-row-requires
+put-row-requires c κs = search needs
 
 returns : tie.Need-returns
-returns c =
-    let kind = c .before .before in
-    let gap = kind .before .before in
-    let columns = gap .before .before .before in
-    put-line
-    (put-then (put-then (put-then (columns .put-columns .ensures .0) (gap .put-text .ensures)) (kind .put-kind .ensures .0)) (c .put-byte .ensures))
-    (omega (
-      arith,
-      columns .put-columns .ensures .1,
-      gap .put-text .ensures .ends,
-      kind .put-kind .ensures .1,
-      c .put-byte .ensures .ends,
-      c .put-byte .kept .0,
-    ))
+returns c = put-line (c .put-row .ensures .0) (omega (arith, c .put-row .ensures .1, c .put-row .kept .0))
 
 pub grant-row-spec : {M : Type 1} → statement M
-grant-row-spec =
-    tie.close
-    (tie.spec
-    cast-t10
-    slice-aggregate-put-columns
-    put-columns-requires
-    slice-aggregate-put-text
-    put-text-requires
-    put-kind-requires
-    put-byte-requires
-    returns)
+grant-row-spec = tie.close (tie.spec put-row-requires returns)

@@ -1,9 +1,9 @@
--- `rows::print_times` meets its contract: piece by piece. Assumes nothing.
+-- `rows::put_times_from` meets its contract: piece by piece. Assumes nothing.
 use native.Mathlib.Omega.{arith}
-use Rattle.text.proofs.PutLaws.{put-then, put-line}
+use Rattle.text.proofs.PutLaws.{put-then}
 use borrow.Author.Needs.{needs}
-use Rattle.panel.proofs.rows.print_times.Statement.{statement}
-use Rattle.panel.proofs.rows.print_times.Tie as tie
+use Rattle.panel.proofs.rows.put_times_from.Statement.{statement}
+use Rattle.panel.proofs.rows.put_times_from.Tie as tie
 
 slice-aggregate-put-text : tie.Need-slice-aggregate-put-text
 slice-aggregate-put-text c = search needs
@@ -32,29 +32,30 @@ put-moment-requires-2 c κs = search needs
 put-byte-requires : tie.Need-put-byte-requires
 put-byte-requires c κs = search needs
 
+same-length : tie.Need-same-length
+same-length c = search needs
+
 returns : tie.Need-returns
 returns c =
-    let end = c .before .before in
-    let until = end .before .before .before in
-    let from = until .before .before .before in
-    let text = from .before .before .before in
-    rw (← from .before .wide .ensures .0, ← end .before .quarter-after .ensures .0)
-    (put-line
-    (put-then
-    (put-then (text .put-text .ensures) (put-then (from .put-moment .ensures) (put-then (until .put-text2 .ensures) (end .put-moment2 .ensures))))
-    (c .put-byte .ensures))
-    (omega (
-      arith,
-      text .put-text .ensures .ends,
-      from .put-moment .ensures .ends,
-      until .put-text2 .ensures .ends,
-      end .put-moment2 .ensures .ends,
-      c .put-byte .ensures .ends,
-      c .put-byte .kept .0,
-    )))
+    let byte = c .before .before in
+    let end = byte .before .before .before .before in
+    let until = end .before .before .before .before .before in
+    let from = until .before .before .before .before .before in
+    let text = from .before .before .before .before .before .put-text .ensures in
+    rw (← from .before .wide .ensures .0, ← end .before .quarter-after .ensures .0) (
+      put-then (put-then text (put-then (from .put-moment .ensures) (put-then (until .put-text2 .ensures) (end .put-moment2 .ensures)))) (byte .put-byte .ensures),
+      omega (
+        arith,
+        text .ends,
+        from .put-moment .ensures .ends,
+        until .put-text2 .ensures .ends,
+        end .put-moment2 .ensures .ends,
+        byte .put-byte .ensures .ends,
+      ),
+    )
 
-pub print-times-spec : {M : Type 1} → statement M
-print-times-spec =
+pub put-times-from-spec : {M : Type 1} → statement M
+put-times-from-spec =
     tie.close
     (tie.spec
     slice-aggregate-put-text
@@ -66,4 +67,5 @@ print-times-spec =
     quarter-after-requires
     put-moment-requires-2
     put-byte-requires
+    same-length
     returns)

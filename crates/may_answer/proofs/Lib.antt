@@ -1,0 +1,2 @@
+-- The definitions of what is answered to `may`, tried.
+pub mod MayCases

@@ -1,0 +1,2 @@
+-- What the attendant's panel answers to `may`.
+pub mod MayText
