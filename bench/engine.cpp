@@ -7,6 +7,9 @@ Engines make_engines()
     engines.push_back(make_scan());
     engines.push_back(make_scan_simd());
     engines.push_back(make_plain_tree());
+#ifdef WITH_BEFORE
+    engines.push_back(make_before());
+#endif
 #ifdef WITH_SQLITE_RTREE
     engines.push_back(make_sqlite_rtree());
 #endif

@@ -38,6 +38,7 @@ enum { LIBRARY, SCAN, SCAN_SIMD, PLAIN_TREE };
 Engines make_engines();
 
 std::unique_ptr<Engine> make_library();
+std::unique_ptr<Engine> make_before();
 std::unique_ptr<Engine> make_scan();
 std::unique_ptr<Engine> make_scan_simd();
 std::unique_ptr<Engine> make_plain_tree();

@@ -1,4 +1,19 @@
-// The proved library, through include/lg.h.
+// The proved library, through include/lg.h. With BEFORE, an archive that it is held against, whose functions are named before_lg_*.
+#ifdef BEFORE
+#define lg_start before_lg_start
+#define lg_grant before_lg_grant
+#define lg_revoke before_lg_revoke
+#define lg_list before_lg_list
+#define lg_decide before_lg_decide
+#define lg_write before_lg_write
+#define lg_load before_lg_load
+#define NAME "before"
+#define MAKE make_before
+#else
+#define NAME "library"
+#define MAKE make_library
+#endif
+
 #include "../engine.hpp"
 #include "../fail.hpp"
 #include "../file.hpp"
@@ -11,7 +26,7 @@ namespace {
 
 class Library : public Engine, public Files {
 public:
-    const char *name() const override { return "library"; }
+    const char *name() const override { return NAME; }
 
     void start(size_t capacity) override
     {
@@ -62,7 +77,7 @@ private:
     static uint64_t accepted(const char *call, uint64_t word)
     {
         if (LG_FAULT(word) != 0)
-            fail(std::string("library: ") + call + " refused with " + std::to_string(LG_FAULT(word)));
+            fail(std::string(NAME ": ") + call + " refused with " + std::to_string(LG_FAULT(word)));
         return word;
     }
 
@@ -71,7 +86,7 @@ private:
 
 } // namespace
 
-std::unique_ptr<Engine> make_library()
+std::unique_ptr<Engine> MAKE()
 {
     return std::make_unique<Library>();
 }

@@ -2,7 +2,7 @@
 --   book-decision      the book's decision has bookDecide's answer
 --   decision-met       and decide's answer on the words, so that a decision with that answer there is
 --   shows-decision     its text is the only one that the panel shows
---   attendant-claim    so it is after any calls (specs/AttendantClaims)
+--   attendant-claim    so it is on every made pool (specs/AttendantClaims)
 -- Assumes nothing.
 use Prim.Native.Nat.{ℕ}
 use mathlib.Core.Path.{_≡_, refl, sym, ap, _∙_}
@@ -15,10 +15,9 @@ use Rattle.model.proofs.AnswerLaws.{decisionAnswer-injective}
 use Rattle.calls.specs.Calls.{decideCall}
 use Rattle.calls.proofs.Represents.{Represents}
 use Rattle.calls.proofs.QueryLaws.{decide-refines}
-use Rattle.calls.proofs.LoadLaws.{load-represents}
 use Rattle.may_answer.specs.MayText.{mayText}
 use Rattle.claims.specs.AttendantClaims.{bookDecision, ShowsDecision, AttendantClaim}
-use Rattle.claims.proofs.Answers.{represents-calls, memory-sized, calls-represent}
+use Rattle.claims.proofs.MadeLaws.{made-represents}
 
 pub book-decision : (b : Book) (staff door quarter : ℕ)
     → decisionAnswer (bookDecision (b .live) staff door quarter) ≡ bookDecide b staff door quarter .answer
@@ -35,9 +34,5 @@ module _ {w : List ℕ} {b : Book} (h : Represents w b) where
       ap (mayText staff door quarter base) (decisionAnswer-injective d (bookDecision (b .live) staff door quarter) (e ∙ sym (decision-met staff door quarter)))
 
 pub attendant-claim : AttendantClaim
-attendant-claim =
-    record {
-      started = λ c memory calls m fit. shows-decision (calls-represent m calls fit);
-      loaded = λ doors gs c memory calls s m room fit.
-          shows-decision (represents-calls (load-represents s memory (memory-sized m) room) calls fit .1);
-    }
+unfolding AttendantClaim
+attendant-claim c w gs made = shows-decision (made-represents made)

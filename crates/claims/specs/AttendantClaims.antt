@@ -1,29 +1,22 @@
 -- What the attendant reads (document 01, "The plain book": decide): the panel's answer to `may` is the text of the plain book's decision.
 --   bookDecision gs staff door quarter    what the book of the live grants gs decides; bookDecide gives it in document 01's numbers
 --   ShowsDecision w gs     whatever decision has decide's answer on the words w, its text is that of the book's decision, for any base day
---   AttendantClaim         so it is on every pool that start, or load of an accepted file, and any calls after it left
+--   AttendantClaim         so it is on every pool that start, or load of an accepted file, and any calls after it made
 -- That a decision has decide's answer is the contract of `decide` (queries/src/decide); that the panel shows its text is that of `may_text`
 -- (may_answer/src/printing). Assumes nothing: these are definitions.
-use Prim.Native.Nat.{ℕ, _≤_}
+use Prim.Native.Nat.{ℕ}
 use mathlib.Core.Path.{_≡_}
 use mathlib.Core.List.{List}
-use lib.ListN.{length}
 use Rattle.model.specs.declared.Grant.{Grant}
 use Rattle.model.specs.declared.Decision.{Decision}
-use Rattle.model.specs.Interval.{Interval}
 use Rattle.model.specs.Box.{pointBox}
 use Rattle.model.specs.Answer.{decisionAnswer}
 use Rattle.model.specs.Decide.{decideAmong}
-use Rattle.model.specs.Call.{Call}
-use Rattle.model.specs.Values.{CallsFit}
 use Rattle.model.specs.Book.{overlapping}
-use Rattle.grants_file.specs.File.{fileOf}
-use Rattle.grants_file.specs.FileSets.{FileSet}
 use Rattle.calls.specs.Calls.{decideCall}
 use Rattle.calendar.specs.declared.Base.{Base}
 use Rattle.may_answer.specs.MayText.{mayText}
-use Rattle.claims.specs.Claims.{Memory, wordsAfter, liveAfter}
-use Rattle.claims.specs.PanelClaims.{wordsLoaded, liveLoaded}
+use Rattle.claims.specs.Made.{Made}
 
 abbrev pub bookDecision : List Grant → ℕ → ℕ → ℕ → Decision
 bookDecision gs staff door quarter = decideAmong (overlapping (pointBox staff door quarter) gs)
@@ -33,9 +26,5 @@ ShowsDecision w gs =
     (staff door quarter : ℕ) (base : Base) (d : Decision) → decisionAnswer d ≡ decideCall w staff door quarter .answer
     → mayText staff door quarter base d ≡ mayText staff door quarter base (bookDecision gs staff door quarter)
 
-pub record AttendantClaim : Type 0 where
-  pub started : (c : ℕ) (memory : List ℕ) (calls : List Call) → Memory c memory → CallsFit calls
-      → ShowsDecision (wordsAfter memory calls) (liveAfter c calls)
-  pub loaded : (doors : Interval) (gs : List Grant) (c : ℕ) (memory : List ℕ) (calls : List Call)
-      → FileSet doors gs → Memory c memory → length gs ≤ c → CallsFit calls
-      → ShowsDecision (wordsLoaded memory (fileOf doors gs) calls) (liveLoaded c gs calls)
+unfoldable pub AttendantClaim : Type 0
+AttendantClaim = (c : ℕ) (w : List ℕ) (gs : List Grant) → Made c w gs → ShowsDecision w gs
