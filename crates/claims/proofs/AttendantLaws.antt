@@ -31,7 +31,8 @@ module _ {w : List ℕ} {b : Book} (h : Represents w b) where
 
   pub shows-decision : ShowsDecision w (b .live)
   shows-decision staff door quarter base d e =
-      ap (mayText staff door quarter base) (decisionAnswer-injective d (bookDecision (b .live) staff door quarter) (e ∙ sym (decision-met staff door quarter)))
+      let same = decisionAnswer-injective d (bookDecision (b .live) staff door quarter) (e ∙ sym (decision-met staff door quarter)) in
+      ap (mayText staff door quarter base) same
 
 pub attendant-claim : AttendantClaim
 unfolding AttendantClaim

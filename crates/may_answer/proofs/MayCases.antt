@@ -31,9 +31,8 @@ box a b c d e f =
 abbrev seven : Grant
 seven = record { number = 7; rank = 10; kind = kind.Opens; bounds = box 100 199 1 40 32 63 }
 
--- it bars one staff number, until the quarter-hour after 127
 abbrev three : Grant
-three = record { number = 3; rank = 20; kind = kind.Bars; bounds = box 150 150 12 12 0 127 }
+three = record { number = 3; rank = 20; kind = kind.Bars; bounds = box 150 150 12 12 0 65535 }
 
 -- door 12 at quarter 40
 abbrev asked : ℕ → Base → Decision → List ℕ
@@ -54,8 +53,8 @@ pub may-cases : (
     asked 150 base (Barred three)
     ≡ text "staff 150, door 12, quarter 40 (2026-01-01 10:00): BARRED, by grant 3"
     ++ grantHeads
-    ++ text "       3      20     150     150      12      12       0     127  bars"
-    ++ text "from 2026-01-01 00:00 until 2026-01-02 08:00"
+    ++ text "       3      20     150     150      12      12       0   65535  bars"
+    ++ text "from 2026-01-01 00:00 until 2027-11-14 16:00"
     ++ text ""
     )
     × (asked 300 base None ≡ text "staff 300, door 12, quarter 40 (2026-01-01 10:00): NO GRANT, do not open" ++ text "")

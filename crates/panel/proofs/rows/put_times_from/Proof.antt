@@ -42,8 +42,9 @@ returns c =
     let until = end .before .before .before .before .before in
     let from = until .before .before .before .before .before in
     let text = from .before .before .before .before .before .put-text .ensures in
+    let times = put-then text (put-then (from .put-moment .ensures) (put-then (until .put-text2 .ensures) (end .put-moment2 .ensures))) in
     rw (← from .before .wide .ensures .0, ← end .before .quarter-after .ensures .0) (
-      put-then (put-then text (put-then (from .put-moment .ensures) (put-then (until .put-text2 .ensures) (end .put-moment2 .ensures)))) (byte .put-byte .ensures),
+      put-then times (byte .put-byte .ensures),
       omega (
         arith,
         text .ends,
