@@ -4,7 +4,7 @@
 --   request-numbered, request-kind   what a request without faults has: a number above 0, and a kind of 0 or 1
 --   kindOf-kindNumber, kindNumber-kindOf       a kind's number gives the kind back, and a kind of 0 or 1 the number
 --   requested-requestOf, requestOf-requested   a grant as a request is asked for that grant, and such a request is that of its grant
---   requested-free               the grant of a request without faults has none
+--   requested-faultless             the grant of a request without faults has none
 -- Assumes nothing.
 use Prim.Native.Nat.{ℕ, zero, suc, _≤_}
 use mathlib.Core.Path.{_≡_, refl, sym, subst}
@@ -62,5 +62,5 @@ requested-requestOf g = λ i. record { number = g .number; rank = g .rank; kind 
 pub requestOf-requested : (r : Request) → r .kind ≤ 1 → requestOf (requested r) ≡ r
 requestOf-requested r h = λ i. record { number = r .number; rank = r .rank; kind = kindNumber-kindOf (r .kind) h i; bounds = r .bounds }
 
-pub requested-free : (r : Request) → NoneOf (requestCauses r) → NoneOf (requestCauses (requestOf (requested r)))
-requested-free r free = subst (λ (x : Request). NoneOf (requestCauses x)) (sym (requestOf-requested r (request-kind r free))) free
+pub requested-faultless : (r : Request) → NoneOf (requestCauses r) → NoneOf (requestCauses (requestOf (requested r)))
+requested-faultless r faultless = subst (λ (x : Request). NoneOf (requestCauses x)) (sym (requestOf-requested r (request-kind r faultless))) faultless
