@@ -40,12 +40,12 @@ use Rattle.adt.specs.Reach.{Holds}
 use Rattle.grants_file.specs.Layout.{blockBytes}
 use Rattle.grants_file.specs.Record.{encodeRecord}
 use Rattle.grants_file.specs.File.{chunk, fileOf, blocksIn, doorsIn, grantsIn}
-use Rattle.grants_file.specs.BlockRead.{readCauses, partOf}
+use Rattle.grants_file.specs.BlockRead.{readCauses, partOf, blockCall}
 use Rattle.grants_file.specs.FileSets.{Accepted, FileSet, Ordering}
 use Rattle.calls.specs.LinkCauses.{searchMeets9, searchHits, grantMeets9, revokeMeets9}
 use Rattle.calls.specs.Order.{startOrder, grantOrder, revokeOrder, listOrder, lookOrder, writeOrder, loadOrder, matchOrder}
 use Rattle.calls.specs.Calls.{startCall, grantCall, revokeCall, listCall, decideCall, countCall, wordsStep}
-use Rattle.calls.specs.FileCalls.{writeCall, grantAll, loadCall, matchCall, blockCall}
+use Rattle.calls.specs.FileCalls.{writeCall, grantAll, loadCall, matchCall}
 use Rattle.claims.specs.Made.{Memory, Made}
 use Rattle.claims.specs.KeepsGrants.{ListsGrants, DecidesAmong, MatchesFiles, Writes, WritesFiles, LoadsAlike, NeverBroken, KeepsGrants}
 
