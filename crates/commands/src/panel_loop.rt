@@ -16,7 +16,7 @@ use console::output::say;
 use console::output::say_number;
 use console::output::warn;
 use file_calls::load::load;
-use grants_file::contents::has_door;
+use file_contents::door_range::has_door;
 use libc::STDIN_FILENO;
 use model::Outcome;
 use pool::layout::MAX_WORDS;

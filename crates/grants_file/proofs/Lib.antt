@@ -18,6 +18,5 @@ pub mod DefectSteps
 pub mod ValidateSteps
 pub mod BlockReadSteps
 pub mod GrantSteps
-pub mod ContentsSteps
 pub mod WriteBlockSteps
 pub mod SetLaws

@@ -9,4 +9,3 @@ pub mod Verdict
 pub mod BlockRead
 pub mod Answers
 pub mod FileSets
-pub mod Contents

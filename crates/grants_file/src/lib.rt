@@ -4,19 +4,15 @@ pub mod block;
 pub mod block_defects;
 pub mod block_read;
 pub mod bytes;
-pub mod contents;
 pub mod defects;
 pub mod file;
 pub mod grants;
 pub mod layout;
-pub mod lookup;
 pub mod record;
 pub mod record_defects;
 pub mod validate;
 pub mod verdict;
 pub mod write_block;
-
-use model::Grant;
 
 // What is wrong in a file, finer than document 01's fault: 10; 12; 11 by its causes; 13 by its causes.
 // A record counts from 1 in its block; its number is the grant's, as it stands there.
@@ -75,16 +71,4 @@ pub enum Defect {
 pub enum BlockAnswer {
     Sound { last: u16 },
     Wrong(Defect),
-}
-
-// The doors that a file was cut for; none where it is refused.
-pub enum Doors {
-    Are { from: u16, to: u16 },
-    Unknown,
-}
-
-// A grant of the file, or none.
-pub enum Entry {
-    Is(Grant),
-    Absent,
 }

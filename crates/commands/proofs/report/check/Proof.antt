@@ -1,5 +1,5 @@
 -- `report::check` is safe: a file in which nothing is wrong is accepted. Assumes nothing.
-use Rattle.grants_file.proofs.ContentsSteps.{taken}
+use Rattle.file_contents.proofs.ContentsSteps.{taken}
 use borrow.Author.Needs.{needs}
 use Rattle.commands.proofs.report.check.Statement.{statement}
 use Rattle.commands.proofs.report.check.Tie as tie

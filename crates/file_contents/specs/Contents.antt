@@ -12,12 +12,12 @@ use mathlib.Core.List.{List, [], _∷_}
 use lib.Dec.{eqb}
 use Rattle.model.specs.declared.Grant.{Grant}
 use Rattle.model.specs.Interval.{holds}
-use Rattle.grants_file.specs.declared.Doors.{Doors}
-use Rattle.grants_file.specs.declared.Doors.the-variants.{Are, Unknown}
-use Rattle.grants_file.specs.declared.Entry.{Entry}
-use Rattle.grants_file.specs.declared.Entry.the-variants.{Is, Absent}
+use Rattle.file_contents.specs.declared.Doors.{Doors}
+use Rattle.file_contents.specs.declared.Doors.the-variants.{Are, Unknown}
+use Rattle.file_contents.specs.declared.Entry.{Entry}
+use Rattle.file_contents.specs.declared.Entry.the-variants.{Is, Absent}
 use Rattle.grants_file.specs.File.{doorsIn, grantsIn}
 use Rattle.grants_file.specs.Defects.{isWrong, defectIn}
 
 abbrev pub ifSound : {A : Type 0} → List ℕ → A → A → A
 ifSound f x y = cond (isWrong (defectIn f)) y x

@@ -1,8 +1,8 @@
--- `contents::doors_of` meets its contract: by what is wrong. Assumes nothing.
-use Rattle.grants_file.proofs.ContentsSteps.{given-refused, given-accepted, taken-front}
+-- `door_range::doors_of` meets its contract: by what is wrong. Assumes nothing.
+use Rattle.file_contents.proofs.ContentsSteps.{given-refused, given-accepted, taken-front}
 use borrow.Author.Needs.{needs}
-use Rattle.grants_file.proofs.contents.doors_of.Statement.{statement}
-use Rattle.grants_file.proofs.contents.doors_of.Tie as tie
+use Rattle.file_contents.proofs.door_range.doors_of.Statement.{statement}
+use Rattle.file_contents.proofs.door_range.doors_of.Tie as tie
 
 validate-requires : tie.Need-validate-requires
 validate-requires c κs = search needs

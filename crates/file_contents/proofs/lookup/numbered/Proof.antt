@@ -1,8 +1,8 @@
 -- `lookup::numbered` meets its contract: none of a refused file, else the one that is found. Assumes nothing.
-use Rattle.grants_file.proofs.ContentsSteps.{given-refused, given-accepted, taken}
+use Rattle.file_contents.proofs.ContentsSteps.{given-refused, given-accepted, taken}
 use borrow.Author.Needs.{needs}
-use Rattle.grants_file.proofs.lookup.numbered.Statement.{statement}
-use Rattle.grants_file.proofs.lookup.numbered.Tie as tie
+use Rattle.file_contents.proofs.lookup.numbered.Statement.{statement}
+use Rattle.file_contents.proofs.lookup.numbered.Tie as tie
 
 validate-requires : tie.Need-validate-requires
 validate-requires c κs = search needs

@@ -1,11 +1,11 @@
 // What a file was cut for (specs/Contents). A file that is refused has no doors.
 ghost use mathlib.Core.Path.{_≡_};
-ghost use Rattle.grants_file.specs.Contents.{doorsGiven, hasDoor};
+ghost use Rattle.file_contents.specs.Contents.{doorsGiven, hasDoor};
 use crate::Doors;
-use crate::defects::is_wrong;
-use crate::grants::first_door;
-use crate::grants::last_door;
-use crate::validate::validate;
+use grants_file::defects::is_wrong;
+use grants_file::grants::first_door;
+use grants_file::grants::last_door;
+use grants_file::validate::validate;
 
 pub fn doors_of(file: &[u8]) -> Doors
     ensures { λ r. ⌜ r ≡ doorsGiven (now (file .entry)) ⌝ }

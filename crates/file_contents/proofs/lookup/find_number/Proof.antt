@@ -4,12 +4,12 @@ use mathlib.Core.Path.{_≡_, refl, _∙_}
 use native.Mathlib.Omega.{arith}
 use lib.ListN.{drop}
 use borrow.Author.Needs.{needs}
 use Rattle.grants_file.specs.File.{totalIn, grantsIn}
 use Rattle.grants_file.proofs.GrantSteps.{accepted-whole}
-use Rattle.grants_file.specs.Contents.{numberedOf}
-use Rattle.grants_file.proofs.ContentsSteps.{numbered-here, numbered-next, numbered-end}
-use Rattle.grants_file.proofs.lookup.find_number.Statement.{statement}
-use Rattle.grants_file.proofs.lookup.find_number.Tie as tie
+use Rattle.file_contents.specs.Contents.{numberedOf}
+use Rattle.file_contents.proofs.ContentsSteps.{numbered-here, numbered-next, numbered-end}
+use Rattle.file_contents.proofs.lookup.find_number.Statement.{statement}
+use Rattle.file_contents.proofs.lookup.find_number.Tie as tie
 
 abbrev Inv-loop : tie.InvT-loop
 Inv-loop file number total i₀ i = (total ≡ totalIn file) × (numberedOf (drop i (grantsIn file)) number ≡ numberedOf (grantsIn file) number)

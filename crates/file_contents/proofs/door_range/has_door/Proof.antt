@@ -1,9 +1,9 @@
--- `contents::has_door` meets its contract: by what is wrong, then the two ends of the doors. Assumes nothing.
+-- `door_range::has_door` meets its contract: by what is wrong, then the two ends of the doors. Assumes nothing.
 use borrow.Author.Tests.{le-leb, lt-leb}
-use Rattle.grants_file.proofs.ContentsSteps.{given-refused, given-accepted, taken-front}
+use Rattle.file_contents.proofs.ContentsSteps.{given-refused, given-accepted, taken-front}
 use borrow.Author.Needs.{needs}
-use Rattle.grants_file.proofs.contents.has_door.Statement.{statement}
-use Rattle.grants_file.proofs.contents.has_door.Tie as tie
+use Rattle.file_contents.proofs.door_range.has_door.Statement.{statement}
+use Rattle.file_contents.proofs.door_range.has_door.Tie as tie
 
 validate-requires : tie.Need-validate-requires
 validate-requires c κs = search needs

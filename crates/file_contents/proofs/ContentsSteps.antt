@@ -11,15 +11,15 @@ use native.Mathlib.Omega.{arith}
 use lib.ListN.{drop, drop-of-length-le}
 use borrow.Author.Tests.{eq-eqb, ne-eqb}
 use Rattle.model.specs.declared.Grant.{Grant}
 use Rattle.grants_file.specs.declared.Defect.{Defect}
-use Rattle.grants_file.specs.declared.Entry.the-variants.{Is, Absent}
+use Rattle.file_contents.specs.declared.Entry.the-variants.{Is, Absent}
 use Rattle.grants_file.specs.File.{blocksIn, totalIn, grantsIn}
 use Rattle.grants_file.specs.Defects.{isWrong, defectIn}
 use Rattle.grants_file.specs.FileSets.{Accepted}
-use Rattle.grants_file.specs.Contents.{ifSound, numberedOf}
+use Rattle.file_contents.specs.Contents.{ifSound, numberedOf}
 use Rattle.grants_file.proofs.FileLaws.{length-grantsIn}
 use Rattle.grants_file.proofs.DefectLaws.{sound-accepted}
 use Rattle.grants_file.proofs.GrantSteps.{accepted-whole}
 
 module _ (f : List ℕ) {d : Defect} (told : d ≡ defectIn f) {w : Bool} (e : w ≡ isWrong d) where
   -- what is given by what is wrong

@@ -1,13 +1,13 @@
 // A grant of a file by its number (specs/Contents). A file that is refused gives none.
 ghost use mathlib.Core.Path.{_≡_};
 ghost use Rattle.grants_file.specs.File.{grantsIn};
 ghost use Rattle.grants_file.specs.FileSets.{Accepted};
-ghost use Rattle.grants_file.specs.Contents.{numberedOf, numberedIn};
+ghost use Rattle.file_contents.specs.Contents.{numberedOf, numberedIn};
 use crate::Entry;
-use crate::defects::is_wrong;
-use crate::grants::grant_in;
-use crate::grants::total_in;
-use crate::validate::validate;
+use grants_file::defects::is_wrong;
+use grants_file::grants::grant_in;
+use grants_file::grants::total_in;
+use grants_file::validate::validate;
 
 // The grant of an accepted file with this number.
 fn find_number(file: &[u8], number: u16) -> Entry

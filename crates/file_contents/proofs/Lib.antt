@@ -1,0 +1,2 @@
+-- What a file gives, as the code finds it.
+pub mod ContentsSteps
