@@ -40,6 +40,8 @@
 extern "C" {
 #endif
 
+#define LG_STACK_BYTES 65536
+
 #define LG_FAULT(word) ((unsigned)((word) & 0xFFu))
 #define LG_A(word) ((uint32_t)(((word) >> 8) & 0xFFFFFFu))
 #define LG_B(word) ((uint32_t)((word) >> 32))
