@@ -7,7 +7,7 @@ use Prim.Native.Nat.{ℕ, _+_, _≤_}
 use mathlib.Core.Logic.{_⊎_, inl, inr}
 use mathlib.Core.Path.{_≡_, refl, sym, ap, subst, _∙_}
 use mathlib.Core.Bool.{Bool, true, false, not, _&&_, _||_}
-use mathlib.Core.List.{List, [], _∷_, List·Memᴰ, Memᴰ·map, Memᴰ·cast}
+use mathlib.Core.List.{List, [], _∷_, _++_, List·Memᴰ, Memᴰ·map, Memᴰ·cast}
 use mathlib.Core.Option.{none}
 use native.Mathlib.Omega.{arith}
 use lib.Dec.{eqb}
@@ -16,13 +16,16 @@ use borrow.Author.Tests.{eqb-false}
 use Rattle.lists.specs.Sort.{insertBy}
 use Rattle.lists.proofs.PermLaws.{put-mem}
 use Rattle.model.specs.declared.Grant.{Grant}
-use Rattle.model.specs.declared.Fault.the-variants.{Reversed, ZeroNumber, UnknownKind, AlreadyLive, Full}
+use Rattle.model.specs.declared.Fault.the-variants.{AlreadyLive, Full}
 use Rattle.model.specs.Refusal.{Cause, _if_, firstFault}
-use Rattle.model.specs.Arguments.{reversedBox, zeroNumber, unknownKind}
-use Rattle.model.specs.Call.{Request, requested}
+use Rattle.model.specs.Judged.{NoneOf}
+use Rattle.model.specs.Arguments.{requestCauses}
+use Rattle.model.specs.Call.{Request, requested, requestOf}
 use Rattle.model.specs.Values.{GrantFits, RequestFits}
 use Rattle.model.specs.Book.{Book, withLive, isLive, bookGrant}
-use Rattle.model.proofs.RefusalLaws.{causes-absent}
+use Rattle.model.proofs.RefusalLaws.{causes-absent, append-absent}
+use Rattle.model.proofs.JudgedLaws.{noneOf-iff}
+use Rattle.model.proofs.ArgumentLaws.{requested-faultless}
 use Rattle.model.proofs.Simulation.{Agrees, refusing-agrees}
 use Rattle.geometry.specs.Region.{rootRegion}
 use Rattle.geometry.specs.Point.{inside, pointOf}
@@ -46,16 +49,16 @@ use Rattle.calls.proofs.LiveNumberLaws.{number-found, numberLive-isLive
 
 -- the words v with the cell k put in, which carries g
 module _ {w v : List ℕ} {b : Book} {k : ℕ} {ks : List ℕ} {g : Grant} (h : Represents w b) (linked : Linked w (b .capacity) (h .tree) (k ∷ ks))
-    (done : Inserted w v (b .capacity) (h .tree) k ks g) (fits : GrantFits g) (numbered : 1 ≤ g .number) (upright : reversedBox (g .bounds) ≡ false)
+    (done : Inserted w v (b .capacity) (h .tree) k ks g) (fits : GrantFits g) (faultless : NoneOf (requestCauses (requestOf g)))
     (new : ¬ List·Memᴰ (g .number) (numbersOf w (h .tree))) where
   new-carried : Carried v k g
-  new-carried = record { fits = fits; numbered = numbered; upright = upright; words = carries-inserted linked done }
+  new-carried = record { fits = fits; faultless = faultless; words = carries-inserted linked done }
 
   old-carried : (j : ℕ) → List·Memᴰ j (cellsOf (h .tree)) → Carried v j (grantAt v j)
   old-carried j m =
       let old = h .carried j m in
       subst (Carried v j) (sym (done .others j m))
-      (record { fits = old .fits; numbered = old .numbered; upright = old .upright; words = carries-inserted-other linked done j (grantAt w j) m (old .words) })
+      (record { fits = old .fits; faultless = old .faultless; words = carries-inserted-other linked done j (grantAt w j) m (old .words) })
 
   all-carried : (j : ℕ) → List·Memᴰ j (cellsOf (done .tree)) → Carried v j (grantAt v j)
   all-carried j m = go (put-mem (done .cells) m)
@@ -100,13 +103,7 @@ module _ {w : List ℕ} {b : Book} (h : Represents w b) (r : Request) (fits : Re
 
   -- the causes of the book's line
   abbrev causes : List Cause
-  causes =
-      ZeroNumber if zeroNumber (r .number)
-      ∷ UnknownKind if unknownKind (r .kind)
-      ∷ Reversed if reversedBox (r .bounds)
-      ∷ AlreadyLive if isLive b (r .number)
-      ∷ Full if eqb (length (b .live)) (b .capacity)
-      ∷ []
+  causes = requestCauses r ++ (AlreadyLive if isLive b (r .number) ∷ Full if eqb (length (b .live)) (b .capacity) ∷ [])
 
   grant-order : firstFault (grantOrder w r (grantBroken w r) (hitsOf (numberSearch w (r .number)))) ≡ firstFault causes
   unfolding grantOrder firstFault
@@ -115,22 +112,20 @@ module _ {w : List ℕ} {b : Book} (h : Represents w b) (r : Request) (fits : Re
 
   granted : firstFault causes ≡ none → Represents (grantedWords w r (insertionWalk w r)) (withLive b (insertBy grantNumber (requested r) (b .live)))
   granted e =
-      let zero = causes-absent _ _ e in
-      let upright = causes-absent _ _ (causes-absent _ _ (zero .1) .1) in
-      let new = causes-absent _ _ (upright .1) in
+      let parts = append-absent (requestCauses r) _ e in
+      let new = causes-absent _ _ (parts .1) in
       let full = causes-absent _ _ (new .1) in
-      go (h .free) (h .linked) (represents-count h) (eqb-false (r .number) 0 (zero .0)) (upright .0) (new .0)
+      go (h .free) (h .linked) (represents-count h) (noneOf-iff (requestCauses r) .1 (parts .0)) (new .0)
       (eqb-false (length (b .live)) (b .capacity) (full .0))
     where
-      go : (ks : List ℕ) → Linked w (b .capacity) (h .tree) ks → length (b .live) + length ks ≡ b .capacity → ¬ (r .number ≡ 0)
-          → reversedBox (r .bounds) ≡ false
+      go : (ks : List ℕ) → Linked w (b .capacity) (h .tree) ks → length (b .live) + length ks ≡ b .capacity → NoneOf (requestCauses r)
           → isLive b (r .number) ≡ false → ¬ (length (b .live) ≡ b .capacity)
           → Represents (grantedWords w r (insertionWalk w r)) (withLive b (insertBy grantNumber (requested r) (b .live)))
-      go [] linked count some upright new room = absurd (omega arith)
-      go (k ∷ ks) linked count some upright new room =
+      go [] linked count faultless new room = absurd (omega arith)
+      go (k ∷ ks) linked count faultless new room =
           let leads = request-leads new in
           rw (leads .way)
-          (insert-represents h linked (insert-keeps-linked linked request-fits request-inside (leads .way)) request-fits (omega arith) upright
+          (insert-represents h linked (insert-keeps-linked linked request-fits request-inside (leads .way)) request-fits (requested-faultless r faultless)
           (not-live h (r .number) new))
 
   pub grant-refines : Agrees Represents (grantCall w r) (bookGrant b r)

@@ -1,7 +1,6 @@
 -- Grants in a row on words that stand for a plain book, and load (document 01, "The grants file").
 --   bookOf c gs             the book of c cells that holds gs
---   Grantable g             a grant that grant takes: its values fit, its number is not 0, its box is not reversed
---   requested-requestOf     what grant adds of a grant that is asked for whole
+--   Grantable g             a grant that grant takes: its values fit, and they have no fault of a grant's arguments
 --   requestOf-fits          a grant that fits, as grant takes it
 --   absent-not-live         a number that no live grant has is not live
 --   grant-adds              grant takes it, where its number is new and a cell is free
@@ -19,7 +18,7 @@ use mathlib.Core.Bool.{Bool, true, false, cond}
 use mathlib.Core.List.{List, [], _∷_, _++_, map, map-append, append-nil, List·Memᴰ, List·Memᴰ·head, List·Memᴰ·tail, Memᴰ·map, Memᴰ·cast, Memᴰ·append-right}
 use mathlib.Core.Option.{none, some}
 use native.Mathlib.Omega.{arith}
-use lib.Dec.{ltb, eqb}
+use lib.Dec.{eqb}
 use lib.ListN.{length}
 use borrow.Author.Tests.{ltb-false, le-ltb, eqb-true, ne-eqb}
 use Rattle.lists.specs.Sort.{insertBy, sortBy}
@@ -30,18 +29,18 @@ use Rattle.lists.proofs.SortLaws.{put-insertBy, perm-sortBy, rises-ascends, ris
 use Rattle.model.specs.declared.Grant.{Grant}
 use Rattle.model.specs.declared.Fault.{Fault}
 use Rattle.model.specs.declared.Fault.the-variants.{BadPool}
-use Rattle.model.specs.declared.Kind.{Kind}
-use Rattle.model.specs.declared.Kind.the-variants as kind
-use Rattle.model.specs.Kind.{kindNumber, kindOf}
 use Rattle.model.specs.Interval.{Interval}
-use Rattle.model.specs.Arguments.{reversedBox}
+use Rattle.model.specs.Judged.{NoneOf}
+use Rattle.model.specs.Arguments.{requestCauses}
 use Rattle.model.specs.Refusal.{firstFault, refusing}
 use Rattle.model.specs.Answer.{accepted, refusal}
-use Rattle.model.specs.Call.{requested}
+use Rattle.model.specs.Call.{requestOf}
 use Rattle.model.specs.Values.{byteValues, Below, GrantFits, RequestFits}
 use Rattle.model.specs.Book.{Book, withLive, isLive, bookGrant}
 use Rattle.model.specs.Histories.{Response}
 use Rattle.model.proofs.RefusalLaws.{causes-absent, firstFault-append, refusing-front, append-absent, accepted-none}
+use Rattle.model.proofs.JudgedLaws.{noneOf-iff}
+use Rattle.model.proofs.ArgumentLaws.{requested-requestOf}
 use Rattle.pool.specs.Capacity.{capacityOf, wrongLength}
 use Rattle.pool.specs.Fresh.{freshPool}
 use Rattle.pool.proofs.CapacityLaws.{Sized, capacityOf-poolLength, wrongLength-iff}
@@ -50,10 +49,10 @@ use Rattle.grants_file.specs.Verdict.{fileCauses}
 use Rattle.grants_file.specs.FileSets.{Accepted, FileSet, Ordering}
 use Rattle.grants_file.proofs.FileLaws.{totalIn-fileOf, grantsIn-fileOf}
 use Rattle.grants_file.proofs.VerdictLaws.{fileOf-accepted, accepted-files}
-use Rattle.grants_file.proofs.SetLaws.{ascending-above, set-rises, set-sorted}
+use Rattle.grants_file.proofs.SetLaws.{set-rises, set-sorted}
 use Rattle.calls.specs.Order.{loadOrder}
 use Rattle.calls.specs.Calls.{grantCall}
-use Rattle.calls.specs.FileCalls.{requestOf, grantAll, loadCall}
+use Rattle.calls.specs.FileCalls.{grantAll, loadCall}
 use Rattle.calls.proofs.Represents.{grantNumber, Represents, represents-rises}
 use Rattle.calls.proofs.StartLaws.{represents-freshPool}
 use Rattle.calls.proofs.GrantLaws.{grant-refines}
@@ -64,22 +63,10 @@ bookOf c gs = record { capacity = c; live = gs }
 
 pub record Grantable (g : Grant) : Type 0 where
   pub fits : GrantFits g
-  pub numbered : 1 ≤ g .number
-  pub upright : reversedBox (g .bounds) ≡ false
-
-pub requested-requestOf : (g : Grant) → requested (requestOf g) ≡ g
-requested-requestOf g = λ i. record { number = g .number; rank = g .rank; kind = back (g .kind) i; bounds = g .bounds }
-  where
-    back : (k : Kind) → kindOf (kindNumber k) ≡ k
-    back kind.Bars = refl
-    back kind.Opens = refl
+  pub faultless : NoneOf (requestCauses (requestOf g))
 
 pub requestOf-fits : {g : Grant} → GrantFits g → RequestFits (requestOf g)
 requestOf-fits f = record { number = f .number; rank = f .rank; bounds = f .bounds }
-
-known-kind : (k : Kind) → ltb 1 (kindNumber k) ≡ false
-known-kind kind.Bars = refl
-known-kind kind.Opens = refl
 
 -- the book takes such a grant
 bookGrant-adds : (b : Book) (g : Grant) → Grantable g → isLive b (g .number) ≡ false → length (b .live) < b .capacity
@@ -87,9 +74,7 @@ bookGrant-adds : (b : Book) (g : Grant) → Grantable g → isLive b (g .number)
 unfolding bookGrant refusing firstFault
 bookGrant-adds b g t new room =
     rw (
-      ne-eqb (g .number) 0 (λ e. omega (arith, t .numbered)),
-      known-kind (g .kind),
-      t .upright,
+      firstFault-append (requestCauses (requestOf g)) _ (noneOf-iff (requestCauses (requestOf g)) .0 (t .faultless)),
       new,
       ne-eqb (length (b .live)) (b .capacity) (λ e. omega arith),
     )
@@ -129,7 +114,7 @@ grantAll-represents {w} {b} (g ∷ gs) h each (distinct-more n d) room =
 
 module _ {doors : Interval} {gs : List Grant} (s : FileSet doors gs) where
   pub set-grantable : (g : Grant) → List·Memᴰ g gs → Grantable g
-  set-grantable g m = record { fits = s .each g m .fits; numbered = omega (arith, ascending-above (s .ascending) g m); upright = s .each g m .order }
+  set-grantable g m = record { fits = s .each g m .fits; faultless = s .each g m .faultless }
 
   module _ {c : ℕ} (memory : List ℕ) (z : Sized memory c) (room : length gs ≤ c) where
     pub set-represents : (hs : List Grant) → Ordering gs hs → Represents (grantAll (freshPool c) hs) (bookOf c gs)
@@ -146,7 +131,7 @@ module _ {doors : Interval} {gs : List Grant} (s : FileSet doors gs) where
     load-order =
         rw (
           wrongLength-iff memory .1 (c, z),
-          firstFault-append (fileCauses (fileOf doors gs)) _ (fileOf-accepted doors gs s),
+          firstFault-append (fileCauses (fileOf doors gs)) _ (noneOf-iff (fileCauses (fileOf doors gs)) .0 (fileOf-accepted doors gs s)),
           totalIn-fileOf doors gs,
           capacityOf-poolLength memory c (z .long),
           le-ltb c (length gs) room,
@@ -167,7 +152,7 @@ module _ {c : ℕ} (memory f : List ℕ) (z : Sized memory c) (below : Below byt
       let absent = causes-absent _ _ (accepted-none _ memory [] _ [] taken) in
       let both = append-absent (fileCauses f) _ (absent .1) in
       let few = ltb-false (capacityOf memory) (totalIn f) (causes-absent _ _ (both .1) .0) in
-      (both .0, rw (capacityOf-poolLength memory c (z .long)) at few)
+      (noneOf-iff (fileCauses f) .1 (both .0), rw (capacityOf-poolLength memory c (z .long)) at few)
 
   pub accepted-represents : (gs : List Grant) × Represents (loadCall memory f .state) (bookOf c gs)
   accepted-represents = let set = accepted-files f below .0 (load-causes .0) in go (set .0) (set .1) (set .2) (set .3)

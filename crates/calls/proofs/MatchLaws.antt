@@ -29,6 +29,7 @@ use Rattle.model.specs.Book.{Book}
 use Rattle.model.proofs.AnswerLaws.{matchedAnswer-injective}
 use Rattle.model.proofs.GrantLaws.{sameGrant-iff}
 use Rattle.model.proofs.RefusalLaws.{firstFault-append, refusing-front}
+use Rattle.model.proofs.JudgedLaws.{noneOf-iff}
 use Rattle.pool.specs.Capacity.{wrongPool}
 use Rattle.grants_file.specs.File.{fileOf}
 use Rattle.grants_file.specs.Verdict.{fileCauses}
@@ -173,7 +174,9 @@ module _ {w : List ℕ} {b : Book} (h : Represents w b) {doors : Interval} {gs :
 
   match-order : firstFault (matchOrder w (fileOf doors gs) (isBroken (doorSearch w doors))) ≡ none
   unfolding matchOrder firstFault
-  match-order = rw (represents-pool h, firstFault-append (fileCauses (fileOf doors gs)) _ (fileOf-accepted doors gs s), touching-found h doors .whole)
+  match-order =
+      let causes = fileCauses (fileOf doors gs) in
+      rw (represents-pool h, firstFault-append causes _ (noneOf-iff causes .0 (fileOf-accepted doors gs s)), touching-found h doors .whole)
 
   pub match-set : matchCall w (fileOf doors gs) .answer ≡ matchedAnswer (firstDifference found gs)
   unfolding matchCall refusing

@@ -6,15 +6,19 @@
 use Prim.Native.Nat.{ℕ}
 use mathlib.Core.Path.{_≡_, refl}
 use mathlib.Core.Bool.{Bool, true, false}
-use mathlib.Core.List.{List}
+use mathlib.Core.List.{List, [], _∷_}
 use Rattle.model.specs.declared.Box.{Box}
 use Rattle.model.specs.Interval.{Interval}
-use Rattle.model.specs.Refusal.{Cause, firstFault}
+use Rattle.model.specs.declared.Fault.the-variants.{BadPool, BrokenLinks, AlreadyLive, Full}
+use Rattle.model.specs.Refusal.{Cause, _if_, firstFault}
 use Rattle.model.specs.Call.{Request}
+use Rattle.model.specs.Arguments.{requestCauses}
+use Rattle.model.proofs.RefusalLaws.{firstFault-behind}
+use Rattle.pool.specs.Capacity.{wrongPool}
 use Rattle.geometry.specs.SearchRange.{rangeOfBox, rangeOfDoors, rangeOfNumber}
 use Rattle.adt.proofs.LinkLaws.{or-left}
 use Rattle.calls.specs.Walks.{numberSearch, boxSearch, doorSearch, isBroken, hitsOf}
-use Rattle.calls.specs.Causes.{grantBroken, revokeBroken}
+use Rattle.calls.specs.Causes.{numberLive, noFreeCell, grantBroken, revokeBroken}
 use Rattle.calls.specs.LinkCauses.{searchMeets9, searchHits, grantMeets9, revokeMeets9}
 use Rattle.calls.specs.Order.{grantOrder, revokeOrder, listOrder, writeOrder}
 use Rattle.calls.proofs.LinkCauseLaws.{isBroken-links, hitsOf-links, grantBroken-links, revokeBroken-links}
@@ -42,8 +46,12 @@ pub grantOrder-links : (w : List ℕ) (r : Request)
     ≡ firstFault (grantOrder w r (grantMeets9 w r) (searchHits w (rangeOfNumber (r .number))))
 unfolding grantOrder firstFault
 grantOrder-links w r =
-    order-same (grantOrder w r) (λ h k. refl) (grantBroken-links w r)
+    order-same (grantOrder w r) (λ h k. firstFault-behind (BadPool if wrongPool w ∷ requestCauses r) (walked h) (walked k) refl) (grantBroken-links w r)
     (λ whole. hitsOf-links w (rangeOfNumber (r .number)) (grantBroken-search w r whole))
+  where
+    -- the end of the line, where a walk is broken
+    walked : List ℕ → List Cause
+    walked hits = BrokenLinks if true ∷ AlreadyLive if numberLive hits ∷ Full if noFreeCell w ∷ []
 
 pub revokeOrder-links : (w : List ℕ) (n : ℕ)
     → firstFault (revokeOrder w n (revokeBroken w n) (hitsOf (numberSearch w n)))

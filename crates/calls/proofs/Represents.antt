@@ -27,7 +27,9 @@ use Rattle.lists.proofs.PermLaws.{perm-map, perm-distinct}
 use Rattle.lists.proofs.SortLaws.{Rises, perm-sortBy, length-sortBy, mem-sortBy, sortBy-mem, sortBy-ascends, ascends-rises, filter-sortBy}
 use Rattle.model.specs.declared.Grant.{Grant}
 use Rattle.model.specs.Limits.{maxGrants}
-use Rattle.model.specs.Arguments.{reversedBox}
+use Rattle.model.specs.Judged.{NoneOf}
+use Rattle.model.specs.Call.{requestOf}
+use Rattle.model.specs.Arguments.{requestCauses}
 use Rattle.model.specs.Values.{GrantFits}
 use Rattle.model.specs.Book.{Book}
 use Rattle.geometry.specs.Region.{Region}
@@ -49,8 +51,7 @@ grantNumber g = g .number
 
 pub record Carried (w : List ℕ) (k : ℕ) (g : Grant) : Type 0 where
   pub fits : GrantFits g
-  pub numbered : 1 ≤ g .number
-  pub upright : reversedBox (g .bounds) ≡ false
+  pub faultless : NoneOf (requestCauses (requestOf g))
   pub words : Carries w k g
 
 pub record Represents (w : List ℕ) (b : Book) : Type 0 where

@@ -23,6 +23,8 @@ use Rattle.model.specs.Arguments.{reversedDoors}
 use Rattle.model.specs.Answer.{accepted}
 use Rattle.model.specs.Refusal.{firstFault, refusing}
 use Rattle.model.specs.Book.{Book}
+use Rattle.model.specs.Call.{requestOf}
+use Rattle.model.proofs.ArgumentLaws.{request-numbered}
 use Rattle.geometry.specs.SearchRange.{rangeOfDoors}
 use Rattle.geometry.proofs.SearchRangeLaws.{doors-hits}
 use Rattle.pool.specs.Capacity.{wrongPool}
@@ -79,9 +81,9 @@ module _ {w : List ℕ} {b : Book} (h : Represents w b) (doors : Interval) where
         few = omega (arith, length-filter (touches doors) (b .live), represents-count h, h .few);
         ascending =
             rises-ascending 0 (rises-filter grantNumber (touches doors) (represents-rises h))
-            (λ g m. live-carried g (filter-mem (touches doors) (b .live) g m .0) .1 .numbered);
+            (λ g m. request-numbered (requestOf g) (live-carried g (filter-mem (touches doors) (b .live) g m .0) .1 .faultless));
         each = λ g m.
             let kept = filter-mem (touches doors) (b .live) g m in
             let carried = live-carried g (kept .0) .1 in
-            record { fits = carried .fits; order = carried .upright; touching = kept .1 };
+            record { fits = carried .fits; faultless = carried .faultless; touching = kept .1 };
       }

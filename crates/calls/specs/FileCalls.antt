@@ -1,8 +1,8 @@
--- What write, load, match and block read answer and leave, on any words and bytes (document 01, "The grants file" and "Faults").
+-- What write, load and match answer and leave, on any words and bytes (document 01, "The grants file" and "Faults"). Block read's two calls,
+-- which know of no pool, are `blockCall` and `partAt` of grants_file/specs/BlockRead.
 --   writeCall w doors lent    the lent bytes after it; on a scrambled pool the grants hit, sorted, with repetition
 --   loadCall w f              start, then grants in file order; C comes from the pool's length
 --   matchCall w f             equal, or the lowest number at which the pool's grants touching the file's doors and the file differ
---   blockCall f i, partOf f i block read's two calls: the verdict on the block here, the part in grants_file/specs/BlockRead
 -- Assumes nothing: these are definitions.
 use Prim.Native.Nat.{ℕ, min}
 use mathlib.Core.Bool.{cond}
@@ -12,16 +12,14 @@ use Rattle.lists.specs.Sort.{sortBy}
 use Rattle.model.specs.declared.Grant.{Grant}
 use Rattle.model.specs.declared.Matched.{Matched}
 use Rattle.model.specs.declared.Matched.the-variants as matched
-use Rattle.model.specs.Kind.{kindNumber}
 use Rattle.model.specs.Interval.{Interval}
 use Rattle.model.specs.Grant.{sameGrant}
 use Rattle.model.specs.Answer.{accepted, matchedAnswer}
 use Rattle.model.specs.Refusal.{Step, refusing}
-use Rattle.model.specs.Call.{Request}
+use Rattle.model.specs.Call.{requestOf}
 use Rattle.pool.specs.Capacity.{capacityOf}
 use Rattle.pool.specs.Fresh.{freshPool}
 use Rattle.grants_file.specs.File.{fileOf, doorsIn, grantsIn}
-use Rattle.grants_file.specs.BlockRead.{readCauses}
 use Rattle.calls.specs.Walks.{doorSearch, isBroken, hitsOf, grantsHit}
 use Rattle.calls.specs.Causes.{lengthNeeded}
 use Rattle.calls.specs.Order.{writeOrder, loadOrder, matchOrder}
@@ -42,10 +40,6 @@ writeCall w doors lent =
       answer = accepted (lengthNeeded (hitsOf s) ∷ []);
       lent = overwrite (fileOf doors (touchingGrants w doors)) lent;
     })
-
--- a grant as grant takes it
-abbrev pub requestOf : Grant → Request
-requestOf g = record { number = g .number; rank = g .rank; kind = kindNumber (g .kind); bounds = g .bounds }
 
 -- the words after grants, one after the other
 unfoldable pub grantAll : List ℕ → List Grant → List ℕ
@@ -72,7 +66,3 @@ matchCall w f =
     (matchOrder w f (isBroken (doorSearch w (doorsIn f))))
     w []
     (record { state = w; answer = matchedAnswer (firstDifference (touchingGrants w (doorsIn f)) (grantsIn f)); lent = [] })
-
--- nothing is lent or kept: the state is the file
-unfoldable pub blockCall : List ℕ → ℕ → Step (List ℕ)
-blockCall f i = refusing (readCauses f i) f [] (record { state = f; answer = accepted []; lent = [] })

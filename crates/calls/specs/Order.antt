@@ -7,11 +7,11 @@ use mathlib.Core.Bool.{Bool, not}
 use mathlib.Core.List.{List, [], _∷_, _++_}
 use lib.ListN.{length}
 use Rattle.model.specs.declared.Box.{Box}
-use Rattle.model.specs.declared.Fault.the-variants.{BadPool, Reversed, ZeroNumber, UnknownKind, AlreadyLive, Full, NotLive, ListTooShort, BrokenLinks}
+use Rattle.model.specs.declared.Fault.the-variants.{BadPool, Reversed, ZeroNumber, AlreadyLive, Full, NotLive, ListTooShort, BrokenLinks}
 use Rattle.model.specs.declared.Fault.the-variants.{BufferTooShort}
 use Rattle.model.specs.Interval.{Interval}
 use Rattle.model.specs.Refusal.{Cause, _if_}
-use Rattle.model.specs.Arguments.{reversedBox, reversedDoors, zeroNumber, unknownKind}
+use Rattle.model.specs.Arguments.{reversedBox, reversedDoors, zeroNumber, requestCauses}
 use Rattle.model.specs.Call.{Request}
 use Rattle.pool.specs.Capacity.{wrongLength, wrongPool}
 use Rattle.grants_file.specs.Verdict.{fileCauses}
@@ -23,13 +23,11 @@ startOrder w = BadPool if wrongLength w ∷ []
 unfoldable pub grantOrder : List ℕ → Request → Bool → List ℕ → List Cause
 grantOrder w r broken hits =
     BadPool if wrongPool w
-    ∷ ZeroNumber if zeroNumber (r .number)
-    ∷ UnknownKind if unknownKind (r .kind)
-    ∷ Reversed if reversedBox (r .bounds)
-    ∷ BrokenLinks if broken
+    ∷ requestCauses r
+    ++ (BrokenLinks if broken
     ∷ AlreadyLive if numberLive hits
     ∷ Full if noFreeCell w
-    ∷ []
+    ∷ [])
 
 unfoldable pub revokeOrder : List ℕ → ℕ → Bool → List ℕ → List Cause
 revokeOrder w n broken hits =

@@ -14,10 +14,10 @@ use Rattle.lists.proofs.DistinctLaws.{Distinct, distinct-more}
 use Rattle.lists.proofs.PermLaws.{put-append-right, put-perm, length-put, perm-map, perm-distinct}
 use Rattle.lists.proofs.SortLaws.{put-insertBy, rises-distinct}
 use Rattle.model.specs.declared.Grant.{Grant}
-use Rattle.model.specs.declared.Kind.{Kind}
-use Rattle.model.specs.declared.Kind.the-variants as kind
-use Rattle.model.specs.Kind.{kindNumber}
 use Rattle.model.specs.Limits.{maxGrants}
+use Rattle.model.specs.Call.{requestOf}
+use Rattle.model.specs.Arguments.{requestCauses}
+use Rattle.model.proofs.JudgedLaws.{noneOf-iff}
 use Rattle.model.specs.Values.{byteValues, Below}
 use Rattle.model.specs.Book.{Book, isLive}
 use Rattle.pool.specs.Fresh.{freshPool}
@@ -27,21 +27,15 @@ use Rattle.grants_file.proofs.CauseLaws.{accepted-iff}
 use Rattle.grants_file.proofs.FileLaws.{length-grantsIn}
 use Rattle.grants_file.proofs.VerdictLaws.{passes-set}
 use Rattle.grants_file.proofs.SetLaws.{set-rises}
-use Rattle.index.specs.declared.find.NumberHit.the-variants as hit
 use Rattle.calls.specs.Walks.{numberSearch, hitsOf}
 use Rattle.calls.specs.Calls.{grantCall}
-use Rattle.calls.specs.FileCalls.{requestOf, grantAll}
-use Rattle.index.specs.NumberSearch.{NumberFound}
-use Rattle.index.specs.Plans.{added, addedAll}
+use Rattle.calls.specs.FileCalls.{grantAll}
+use Rattle.steps.specs.Insertions.{added, addedAll}
 use Rattle.calls.proofs.Represents.{grantNumber, Represents, represents-pool}
 use Rattle.calls.proofs.LiveNumberLaws.{number-found, numberLive-isLive}
 use Rattle.calls.proofs.StartLaws.{represents-freshPool}
-use Rattle.index.proofs.PlanLaws.{absent-line, added-grant}
+use Rattle.steps.proofs.InsertionLaws.{absent-line, added-grant}
 use Rattle.calls.proofs.LoadLaws.{Grantable, absent-not-live, grant-adds, set-grantable}
-
-kind-few : (k : Kind) → kindNumber k ≤ 1
-kind-few kind.Bars = omega arith
-kind-few kind.Opens = omega arith
 
 -- a list without elements is empty
 none-left : {A : Type 0} (xs : List A) → length xs ≡ 0 → xs ≡ []
@@ -49,17 +43,11 @@ none-left [] e = refl
 none-left (x ∷ xs) e = absurd (omega arith)
 
 module _ {w : List ℕ} {b : Book} (h : Represents w b) (g : Grant) (t : Grantable g) (new : isLive b (g .number) ≡ false) where
-  number-absent : NumberFound w (g .number) hit.Absent
-  unfolding NumberFound
-  number-absent = record {
-    unbroken = number-found h (g .number) .whole;
-    none = none-left (hitsOf (numberSearch w (g .number))) (eqb-true _ 0 (not-false _ (numberLive-isLive h (g .number) ∙ new)));
-  }
-
   pub grant-added : grantCall w (requestOf g) .state ≡ added w (requestOf g)
   grant-added =
-      added-grant w (requestOf g)
-      (absent-line w (requestOf g) (represents-pool h) (λ e. omega (arith, t .numbered)) (kind-few (g .kind)) (t .upright) number-absent)
+      let absent = none-left (hitsOf (numberSearch w (g .number))) (eqb-true _ 0 (not-false _ (numberLive-isLive h (g .number) ∙ new))) in
+      let faultless = noneOf-iff (requestCauses (requestOf g)) .0 (t .faultless) in
+      added-grant w (requestOf g) (absent-line w (requestOf g) (represents-pool h) faultless (number-found h (g .number) .whole) absent)
 
 pub grantAll-added : {w : List ℕ} {b : Book} (gs : List Grant) → Represents w b → ((g : Grant) → List·Memᴰ g gs → Grantable g)
     → Distinct (map grantNumber (gs ++ b .live)) → length gs + length (b .live) ≤ b .capacity → grantAll w gs ≡ addedAll w gs

@@ -17,7 +17,7 @@ use Rattle.model.specs.declared.Grant.{Grant}
 use Rattle.model.specs.declared.Matched.the-variants.{Equal, Differs}
 use Rattle.model.specs.Grant.{sameGrant}
 use Rattle.pool.specs.Cell.{grantAt}
-use Rattle.queries.specs.Hits.{CellsAt, grantsAt}
+use Rattle.steps.specs.Hits.{CellsAt, grantsAt}
 use Rattle.calls.specs.FileCalls.{firstDifference}
 
 module _ (w cells : List ℕ) {n : ℕ} (at : CellsAt w cells n) where

@@ -1,6 +1,5 @@
 -- Laws of the functions between a pool and a file.
 pub mod LoadSteps
-pub mod SortedCellLaws
 pub mod WriteFileLaws
 pub mod WriteSteps
 pub mod DifferenceLaws

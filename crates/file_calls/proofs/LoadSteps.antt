@@ -19,19 +19,20 @@ use Rattle.model.specs.declared.Outcome.the-variants.{Done, Refused}
 use Rattle.model.specs.Values.{byteValues, Below}
 use Rattle.model.specs.Answer.{accepted, refusal, outcomeAnswer}
 use Rattle.model.specs.Refusal.{Cause, _if_, Step, firstFault, refusing}
+use Rattle.model.specs.Call.{requestOf}
+use Rattle.model.proofs.JudgedLaws.{noneOf-iff}
 use Rattle.model.proofs.RefusalLaws.{firstFault-append, firstFault-front}
 use Rattle.pool.specs.Capacity.{capacityOf, wrongLength, lengthCapacity}
 use Rattle.pool.specs.Fresh.{freshPool}
 use Rattle.grants_file.specs.File.{totalIn, grantsIn}
-use Rattle.grants_file.specs.Verdict.{fileCauses}
-use Rattle.grants_file.specs.Answers.{fileAnswer}
+use Rattle.grants_file.specs.Verdict.{fileCauses, judging}
 use Rattle.grants_file.specs.FileSets.{Accepted}
 use Rattle.grants_file.proofs.FileLaws.{length-grantsIn}
 use Rattle.grants_file.proofs.GrantSteps.{answer-accepted, answer-refused}
 use Rattle.calls.specs.Causes.{tooManyGrants}
 use Rattle.calls.specs.Order.{loadOrder}
-use Rattle.calls.specs.FileCalls.{requestOf, grantAll, loadCall}
-use Rattle.index.specs.Plans.{added, addedAll}
+use Rattle.calls.specs.FileCalls.{grantAll, loadCall}
+use Rattle.steps.specs.Insertions.{added, addedAll}
 use Rattle.calls.specs.Contract.{Leaves}
 use Rattle.file_calls.proofs.AddedLaws.{file-added}
 use Rattle.calls.proofs.RefusalSteps.{refusedBy, first-holds, first-fails, none-left, leaves-as, length-refused, length-taken}
@@ -78,7 +79,7 @@ module _ (w f : List ℕ) where
       right : wrongLength w ≡ false
       right = length-taken w e n .right
 
-      module _ {v : Outcome} (verdict : outcomeAnswer v ≡ fileAnswer f) where
+      module _ {v : Outcome} (verdict : outcomeAnswer v ≡ judging (fileCauses f) f .answer) where
         pub load-file : (x : Fault) → v ≡ Refused x → Leaves (outcomeAnswer v) w (loadCall w f)
         unfolding loadCall loadOrder
         load-file x r =
@@ -96,7 +97,7 @@ module _ (w f : List ℕ) where
                 let cells = length-taken w e n .capacity in
                 leaves-as
                 (first-fails w [] loaded _ _ right
-                ∙ row-fails w [] loaded (fileCauses f) (last-cause ∷ []) load-accepted
+                ∙ row-fails w [] loaded (fileCauses f) (last-cause ∷ []) (noneOf-iff (fileCauses f) .0 load-accepted)
                 ∙ first-holds w [] loaded _ _ (lt-ltb (capacityOf w) (totalIn f) (omega (arith, cells, t, many))))
 
             pub load-done : total ≤ c → ((i : ℕ) → getD f i 0 < byteValues) → {left : List ℕ} → left ≡ addedAll (freshPool c) (grantsIn f)
@@ -109,6 +110,6 @@ module _ (w f : List ℕ) where
                 rw (made, ← same, ← cells)
                 (leaves-as
                 (first-fails w [] loaded _ _ right
-                ∙ row-fails w [] loaded (fileCauses f) (last-cause ∷ []) load-accepted
+                ∙ row-fails w [] loaded (fileCauses f) (last-cause ∷ []) (noneOf-iff (fileCauses f) .0 load-accepted)
                 ∙ first-fails w [] loaded _ _ (le-ltb (capacityOf w) (totalIn f) (omega (arith, cells, t, few)))
                 ∙ none-left w [] loaded))

@@ -17,28 +17,28 @@ use Rattle.model.specs.declared.Outcome.{Outcome}
 use Rattle.model.specs.declared.Outcome.the-variants.{Done, Refused}
 use Rattle.model.specs.Answer.{refusal, outcomeAnswer, matchedAnswer}
 use Rattle.model.specs.Refusal.{_if_, Step, stepBy, refusing}
+use Rattle.model.proofs.JudgedLaws.{noneOf-iff}
 use Rattle.model.proofs.RefusalLaws.{firstFault-append}
 use Rattle.geometry.specs.Region.{Region}
 use Rattle.geometry.specs.SearchRange.{rangeOfDoors}
 use Rattle.pool.specs.Capacity.{poolCapacity}
 use Rattle.grants_file.specs.File.{doorsIn, grantsIn}
-use Rattle.grants_file.specs.Verdict.{fileCauses}
-use Rattle.grants_file.specs.Answers.{fileAnswer}
+use Rattle.grants_file.specs.Verdict.{fileCauses, judging}
 use Rattle.grants_file.specs.FileSets.{Accepted}
 use Rattle.grants_file.proofs.GrantSteps.{answer-accepted, answer-refused}
-use Rattle.queries.specs.declared.hits.Hits.{Hits}
-use Rattle.queries.specs.declared.hits.Hits.the-variants.{Broken, Found}
+use Rattle.steps.specs.declared.hits.Hits.{Hits}
+use Rattle.steps.specs.declared.hits.Hits.the-variants.{Broken, Found}
 use Rattle.calls.specs.Walks.{doorSearch, isBroken}
-use Rattle.queries.specs.Hits.{HitsFound, grantsAt}
+use Rattle.steps.specs.Hits.{HitsFound, grantsAt}
 use Rattle.calls.specs.Order.{matchOrder}
 use Rattle.calls.specs.FileCalls.{touchingGrants, firstDifference, matchCall}
-use Rattle.queries.proofs.HitsLaws.{broken-search, found-hits}
+use Rattle.steps.proofs.HitsLaws.{broken-search, found-hits}
 use Rattle.calls.proofs.MatchLaws.{match-refuses}
 use Rattle.calls.proofs.RefusalSteps.{first-holds, first-fails, none-left, leaves-as, pool-refused, pool-taken}
-use Rattle.file_calls.specs.WriteKeys.{numberIn}
-use Rattle.file_calls.proofs.SortedCellLaws.{touching-sorted}
+use Rattle.steps.specs.SortKeys.{numberIn}
+use Rattle.steps.proofs.SortedCellLaws.{touching-sorted}
 
-pub file-taken : (f : List ℕ) {o : Outcome} → outcomeAnswer o ≡ fileAnswer f → o ≡ Done → Accepted f
+pub file-taken : (f : List ℕ) {o : Outcome} → outcomeAnswer o ≡ judging (fileCauses f) f .answer → o ≡ Done → Accepted f
 file-taken f v d = answer-accepted f (sym v ∙ ap outcomeAnswer d)
 
 module _ (w f : List ℕ) where
@@ -52,7 +52,7 @@ module _ (w f : List ℕ) where
     match-bad z = leaves-as (first-holds w [] compared _ _ (pool-refused w e z)) .answered
 
     module _ (n : ¬ (c ≡ 0)) where
-      pub match-file : {o : Outcome} → outcomeAnswer o ≡ fileAnswer f → {x : Fault} → o ≡ Refused x → outcomeAnswer o ≡ matchCall w f .answer
+      pub match-file : {o : Outcome} → outcomeAnswer o ≡ judging (fileCauses f) f .answer → {x : Fault} → o ≡ Refused x → outcomeAnswer o ≡ matchCall w f .answer
       match-file v {x} r =
           ap outcomeAnswer r ∙ sym (match-refuses w f x (answer-refused f x (sym v ∙ ap outcomeAnswer r)) ∙ rw (pool-taken w e n .right))
 
@@ -62,7 +62,8 @@ module _ (w f : List ℕ) where
         unfolding matchCall matchOrder refusing
         left =
             first-fails w [] compared _ _ (pool-taken w e n .right)
-            ∙ ap (λ (o : Option Fault). stepBy o w [] compared) (firstFault-append (fileCauses f) (BrokenLinks if isBroken (doorSearch w (doorsIn f)) ∷ []) a)
+            ∙ ap (λ (o : Option Fault). stepBy o w [] compared) (firstFault-append (fileCauses f) (BrokenLinks if isBroken (doorSearch w (doorsIn f)) ∷ [])
+            (noneOf-iff (fileCauses f) .0 a))
 
         module _ {from to : ℕ} (first : from ≡ doorsIn f .from) (last : to ≡ doorsIn f .to) {range : Region}
             (asked : range ≡ rangeOfDoors (record { from = from; to = to })) where

@@ -29,8 +29,8 @@ use Rattle.grants_file.specs.File.{recordBlocks, blocksFor, countIn, chunk, fil
 use Rattle.grants_file.proofs.BlockLaws.{length-headerBlock, length-recordBlock}
 use Rattle.grants_file.proofs.RecordLaws.{length-encodeRecord}
 use Rattle.grants_file.proofs.WriteBlockSteps.{sets-append, started, record-block}
-use Rattle.queries.specs.Hits.{CellsAt, grantsAt}
-use Rattle.file_calls.specs.WriteKeys.{recordsFile}
+use Rattle.steps.specs.Hits.{CellsAt, grantsAt}
+use Rattle.file_calls.specs.RecordBlocks.{recordsFile}
 
 -- a record stored is that of any grant equal to the one stored
 pub record-as : (b : List ℕ) (at : ℕ) {g h : Grant} {block : List ℕ} → block ≡ sets b at (encodeRecord g) → g ≡ h → block ≡ sets b at (encodeRecord h)

@@ -23,17 +23,17 @@ use Rattle.pool.specs.Capacity.{wrongPool, poolCapacity}
 use Rattle.adt.specs.Search.{Search}
 use Rattle.grants_file.specs.Layout.{blockBytes}
 use Rattle.grants_file.specs.File.{blocksFor, fileOf}
-use Rattle.queries.specs.declared.hits.Hits.{Hits}
-use Rattle.queries.specs.declared.hits.Hits.the-variants.{Broken, Found}
+use Rattle.steps.specs.declared.hits.Hits.{Hits}
+use Rattle.steps.specs.declared.hits.Hits.the-variants.{Broken, Found}
 use Rattle.calls.specs.Walks.{doorSearch, hitsOf, isBroken}
 use Rattle.calls.specs.Causes.{lengthNeeded}
-use Rattle.queries.specs.Hits.{HitsAt, HitsFound, grantsAt}
+use Rattle.steps.specs.Hits.{HitsAt, HitsFound, grantsAt}
 use Rattle.calls.specs.Order.{writeOrder}
 use Rattle.calls.specs.FileCalls.{touchingGrants, writeCall}
-use Rattle.file_calls.specs.WriteKeys.{numberIn}
+use Rattle.steps.specs.SortKeys.{numberIn}
 use Rattle.calls.specs.Contract.{Lends}
-use Rattle.queries.proofs.HitsLaws.{broken-search, found-hits, length-hits}
-use Rattle.file_calls.proofs.SortedCellLaws.{touching-sorted}
+use Rattle.steps.proofs.HitsLaws.{broken-search, found-hits, length-hits}
+use Rattle.steps.proofs.SortedCellLaws.{touching-sorted}
 use Rattle.calls.proofs.RefusalSteps.{refusedBy, first-holds, first-fails, none-left, lends-as, pool-refused, pool-taken}
 
 module _ (w : List ℕ) (doors : Interval) (lent : List ℕ) where

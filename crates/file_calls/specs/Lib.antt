@@ -1,2 +1,2 @@
 -- What the functions between a pool and a file leave on their way.
-pub mod WriteKeys
+pub mod RecordBlocks

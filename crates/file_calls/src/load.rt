@@ -6,16 +6,16 @@ ghost use Rattle.pool.specs.Capacity.{Sized};
 ghost use Rattle.grants_file.specs.File.{totalIn, grantsIn};
 ghost use Rattle.grants_file.specs.FileSets.{Accepted};
 ghost use Rattle.calls.specs.FileCalls.{loadCall};
-ghost use Rattle.index.specs.Plans.{addedAll};
+ghost use Rattle.steps.specs.Insertions.{addedAll};
 ghost use Rattle.calls.specs.Contract.{Leaves};
 use grants_file::grants::grant_in;
 use grants_file::grants::total_in;
 use grants_file::verdict::judge;
-use index::add::add;
 use model::Fault;
 use model::Outcome;
 use pool::fresh::make_fresh;
 use pool::layout::length_capacity;
+use steps::insertion::add;
 
 // Hangs the grants of an accepted file, one after the other: their numbers rise, so each is new, and none is searched for.
 fn add_all(pool: &mut [u16], file: &[u8], cells: usize, total: usize)

@@ -5,9 +5,8 @@ ghost use Prim.Native.Nat.{min};
 ghost use Rattle.model.specs.Answer.{matchedAnswer, outcomeAnswer};
 ghost use Rattle.grants_file.specs.File.{grantsIn};
 ghost use Rattle.grants_file.specs.FileSets.{Accepted};
-ghost use Rattle.queries.specs.Hits.{CellsAt, grantsAt};
+ghost use Rattle.steps.specs.Hits.{CellsAt, grantsAt};
 ghost use Rattle.calls.specs.FileCalls.{firstDifference, matchCall};
-use crate::sorted_cells::sort_cells;
 use adt::search::HitCells;
 use geometry::range::range_of_doors;
 use grants_file::grants::first_door;
@@ -23,8 +22,9 @@ use pool::cell::grant_at;
 use pool::layout::MAX_CAPACITY;
 use pool::layout::capacity;
 use pool::layout::wide;
-use queries::hits::Hits;
-use queries::hits::find_hits;
+use steps::hits::Hits;
+use steps::hits::find_hits;
+use steps::sorted_cells::sort_cells;
 
 fn lower(a: u16, b: u16) -> u16
     ensures { λ r. ⌜ r ≡ min a b ⌝ }

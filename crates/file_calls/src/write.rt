@@ -3,7 +3,6 @@
 ghost use Rattle.model.specs.Answer.{writtenAnswer};
 ghost use Rattle.calls.specs.FileCalls.{writeCall};
 ghost use Rattle.calls.specs.Contract.{Lends};
-use crate::sorted_cells::sort_cells;
 use crate::write_file::write_file;
 use geometry::range::range_of_doors;
 use grants_file::file::blocks_for;
@@ -12,8 +11,9 @@ use model::Fault;
 use model::Written;
 use pool::layout::MAX_CAPACITY;
 use pool::layout::capacity;
-use queries::hits::Hits;
-use queries::hits::find_hits;
+use steps::hits::Hits;
+use steps::hits::find_hits;
+use steps::sorted_cells::sort_cells;
 
 pub fn write(pool: &[u16], door_from: u16, door_to: u16, bytes: &mut [u8]) -> Written
     ensures { λ r. ⌜ Lends (writtenAnswer r) (now (bytes .exit))

@@ -12,8 +12,8 @@ ghost use Rattle.grants_file.specs.Layout.{recordBytes, blockBytes, recordsPlac
 ghost use Rattle.grants_file.specs.Record.{encodeRecord};
 ghost use Rattle.grants_file.specs.Block.{headerBlock, recordBlock};
 ghost use Rattle.grants_file.specs.File.{blocksFor, chunk, fileOf};
-ghost use Rattle.queries.specs.Hits.{CellsAt, grantsAt};
-ghost use Rattle.file_calls.specs.WriteKeys.{BlockOfCells, recordsFile};
+ghost use Rattle.steps.specs.Hits.{CellsAt, grantsAt};
+ghost use Rattle.file_calls.specs.RecordBlocks.{BlockOfCells, recordsFile};
 use adt::search::HitCells;
 use grants_file::file::blocks_for;
 use grants_file::file::count_in;

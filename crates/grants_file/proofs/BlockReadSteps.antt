@@ -4,33 +4,37 @@
 --   alone-start, alone-header, alone-layout the defects of a block
 --   read-length, read-answer                the verdict
 --   length-in, done-in, done-count          the block is in the file; its count is at most 31
+--   occupies, occupies-as                   a slice that is a part of another
 --   part-refused, part-header, part-records the part
 -- Assumes nothing.
 use Prim.Native.Nat.{ℕ, zero, suc, _+_, _<_, _≤_}
-use mathlib.Core.Path.{_≡_, refl, sym, _∙_}
+use mathlib.Core.Path.{_≡_, refl, sym, ap, subst, _∙_}
 use mathlib.Core.Bool.{Bool, true, false, not, cond, _&&_, and-eq-true-iff}
 use mathlib.Core.List.{List, []}
 use mathlib.Core.Option.{Option, none, some}
 use native.Mathlib.Numerals.{add-one}
 use native.Mathlib.Omega.{arith}
 use lib.Dec.{eqb, leb, ltb}
+use lib.ListN.{length, drop, length-take, length-drop}
+use denote.Ref.{RefT, now}
 use borrow.Author.Tests.{leb-true, leb-false, eqb-true, not-false, eq-eqb, ne-eqb, le-leb}
 use Rattle.lists.proofs.OrLaws.{or-false-iff}
 use Rattle.model.specs.declared.Fault.{Fault}
 use Rattle.model.specs.declared.Fault.the-variants.{BadLength}
 use Rattle.model.specs.Answer.{accepted, refusal, outcomeAnswer}
-use Rattle.model.specs.Refusal.{firstFault}
-use Rattle.model.proofs.AnswerLaws.{refusal-accepted}
+use Rattle.model.specs.Refusal.{firstFault, refusing}
 use Rattle.model.proofs.RefusalLaws.{causes-absent}
 use Rattle.grants_file.specs.declared.Defect.{Defect}
 use Rattle.grants_file.specs.Layout.{headerEnd, recordsPerBlock}
+use Rattle.grants_file.specs.Bytes.{bytesAt}
 use Rattle.grants_file.specs.Block.{countOf}
 use Rattle.grants_file.specs.File.{blocksIn, blockAt, wrongBlockCount}
 use Rattle.grants_file.specs.Defects.{startDefects, paddingDefects, layoutDefects, defectFault, isWrong, firstDefect}
-use Rattle.grants_file.specs.BlockRead.{notInFile, wrongCount, restDefects, readDefects, readCauses, recordsPart, partOf}
-use Rattle.grants_file.specs.Answers.{outcomeBy, answerBy, readAnswer}
+use Rattle.grants_file.specs.BlockRead.{notInFile, wrongCount, restDefects, readDefects, readCauses, blockCall}
+use Rattle.grants_file.specs.BlockRead.{Part, emptyPart, recordsPart, partAt, Occupies}
+use Rattle.grants_file.specs.Answers.{outcomeBy}
 use Rattle.grants_file.proofs.FileSteps.{not-leb}
-use Rattle.grants_file.proofs.DefectLaws.{front-wrong, front-sound, clear-parts, clear-append, answer-first}
+use Rattle.grants_file.proofs.DefectLaws.{front-wrong, front-sound, clear-parts, clear-append, answer-first, judging-accepted, judging-refused}
 
 module _ (f : List ℕ) (i : ℕ) where
   pub in-count : true ≡ wrongBlockCount f → true ≡ notInFile f i
@@ -77,36 +81,23 @@ module _ (f : List ℕ) {b : List ℕ} {x : Defect} where
   alone-layout (suc i) block e w z c r = rw (c, block) at r ∙ sym (sound-start (suc i) block e w)
 
 module _ (f : List ℕ) (i : ℕ) where
-  pub read-length : true ≡ notInFile f i → refusal BadLength ≡ readAnswer f i
-  unfolding readAnswer readCauses firstFault
+  pub read-length : true ≡ notInFile f i → refusal BadLength ≡ blockCall f i .answer
+  unfolding blockCall readCauses refusing firstFault
   read-length h = rw (← h)
 
-  pub read-answer : false ≡ notInFile f i → {x : Defect} → x ≡ firstDefect (readDefects f i) → outcomeAnswer (outcomeBy (defectFault x)) ≡ readAnswer f i
-  unfolding readAnswer readCauses firstFault
-  read-answer h e = rw (← h) (answer-first (readDefects f i) e)
+  pub read-answer : false ≡ notInFile f i → {x : Defect} → x ≡ firstDefect (readDefects f i) → outcomeAnswer (outcomeBy (defectFault x)) ≡ blockCall f i .answer
+  unfolding blockCall readCauses refusing firstFault
+  read-answer h e = rw (← h) (answer-first f (readDefects f i) e)
 
   pub length-in : false ≡ notInFile f i → i < blocksIn f
   unfolding notInFile
   length-in h = leb-false (blocksIn f) i (or-false-iff (wrongBlockCount f) (leb (blocksIn f) i) .0 (sym h) .1)
 
--- an answer is accepted exactly where there is no fault
-accepted-none : (o : Option Fault) → accepted [] ≡ answerBy o → o ≡ none
-accepted-none none e = refl
-accepted-none (some fault) e = absurd (refusal-accepted fault [] (sym e))
+no-fault : (f : List ℕ) (i : ℕ) → accepted [] ≡ blockCall f i .answer → firstFault (readCauses f i) ≡ none
+unfolding blockCall
+no-fault f i e = judging-accepted f (readCauses f i) (sym e)
 
-refusal-some : (fault : Fault) (o : Option Fault) → refusal fault ≡ answerBy o → (other : Fault) × (o ≡ some other)
-refusal-some fault none e = absurd (refusal-accepted fault [] e)
-refusal-some fault (some other) e = (other, refl)
-
-pub part-refused : (f : List ℕ) (i : ℕ) (fault : Fault) → refusal fault ≡ readAnswer f i → [] ≡ partOf f i
-unfolding readAnswer partOf
-part-refused f i fault e = rw (refusal-some fault (firstFault (readCauses f i)) e .1)
-
-no-fault : (f : List ℕ) (i : ℕ) → accepted [] ≡ readAnswer f i → firstFault (readCauses f i) ≡ none
-unfolding readAnswer
-no-fault f i e = accepted-none (firstFault (readCauses f i)) e
-
-pub done-in : (f : List ℕ) (i : ℕ) → accepted [] ≡ readAnswer f i → i < blocksIn f
+pub done-in : (f : List ℕ) (i : ℕ) → accepted [] ≡ blockCall f i .answer → i < blocksIn f
 unfolding readCauses
 done-in f i e = length-in f i (sym (causes-absent _ _ (no-fault f i e) .0))
 
@@ -115,7 +106,7 @@ few true n e =
     leb-true n recordsPerBlock (and-eq-true-iff (leb 1 n) (leb n recordsPerBlock) .0 (not-false (leb 1 n && leb n recordsPerBlock) e) .1)
 few false n e = let same = eqb-true n recordsPerBlock (not-false (eqb n recordsPerBlock) e) in omega arith
 
-pub done-count : (f : List ℕ) (i : ℕ) → accepted [] ≡ readAnswer f i → (i ≡ 0 → ⊥) → countOf (blockAt f i) ≤ recordsPerBlock
+pub done-count : (f : List ℕ) (i : ℕ) → accepted [] ≡ blockCall f i .answer → (i ≡ 0 → ⊥) → countOf (blockAt f i) ≤ recordsPerBlock
 unfolding readCauses restDefects wrongCount
 done-count f zero e h = absurd (h refl)
 done-count f (suc i) e h =
@@ -123,12 +114,27 @@ done-count f (suc i) e h =
     let clear = clear-append (startDefects b (suc i)) (restDefects f (suc i)) .0 (causes-absent _ _ (no-fault f (suc i) e) .1) .1 in
     few (eqb (suc (suc i)) (blocksIn f)) (countOf b) (clear-parts _ _ clear refl .0)
 
-pub part-header : (f : List ℕ) (i : ℕ) → accepted [] ≡ readAnswer f i → i ≡ 0 → [] ≡ partOf f i
-unfolding partOf
+-- a slice that begins so many bytes behind the start of another, in its memory, and has the bytes there
+pub occupies : {p : Part} {whole part : RefT (List ℕ)} → part .ptr .0 ≡ whole .ptr .0 → part .ptr .1 ≡ whole .ptr .1 + p .from
+    → now part ≡ bytesAt (now whole) (p .from) (p .size) → p .from + p .size ≤ length (now whole) → Occupies p whole part
+occupies {p} {whole} memory place bytes inside =
+    let rest = drop (p .from) (now whole) in
+    let long = ap length bytes ∙ length-take (p .size) rest in
+    record { memory = memory; place = place; long = omega (arith, long, length-drop (p .from) (now whole)); bytes = bytes }
+
+pub occupies-as : {p q : Part} {whole part : RefT (List ℕ)} → p ≡ q → Occupies p whole part → Occupies q whole part
+occupies-as {whole = whole} {part = part} e h = subst (λ (p : Part). Occupies p whole part) e h
+
+-- the part of a block that is refused, of block 0, and of any other
+module _ (f : List ℕ) (i : ℕ) where
+  pub part-refused : (fault : Fault) → refusal fault ≡ blockCall f i .answer → partAt f i ≡ emptyPart
+  unfolding blockCall
+  part-refused fault e = rw (judging-refused f (readCauses f i) fault (sym e))
+
+pub part-header : (f : List ℕ) (i : ℕ) → accepted [] ≡ blockCall f i .answer → i ≡ 0 → partAt f i ≡ emptyPart
 part-header f zero e h = rw (no-fault f 0 e)
 part-header f (suc i) e h = absurd (omega arith)
 
-pub part-records : (f : List ℕ) (i : ℕ) → accepted [] ≡ readAnswer f i → (i ≡ 0 → ⊥) → recordsPart f i ≡ partOf f i
-unfolding partOf
+pub part-records : (f : List ℕ) (i : ℕ) → accepted [] ≡ blockCall f i .answer → (i ≡ 0 → ⊥) → partAt f i ≡ recordsPart f i
 part-records f zero e h = absurd (h refl)
 part-records f (suc i) e h = rw (no-fault f (suc i) e)

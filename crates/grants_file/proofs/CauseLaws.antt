@@ -20,6 +20,7 @@ use Rattle.lists.proofs.ElementLaws.{mem-getD}
 use Rattle.lists.proofs.RangeLaws.{length-countFrom, getD-countFrom}
 use Rattle.lists.proofs.ListLaws.{countFrom-mem}
 use Rattle.model.specs.Limits.{maxGrants}
+use Rattle.model.proofs.JudgedLaws.{noneOf-iff}
 use Rattle.grants_file.specs.Layout.{blockBytes, maxBlocks, numberPlace, headerEnd, recordPlace}
 use Rattle.grants_file.specs.Bytes.{be16At}
 use Rattle.grants_file.specs.Block.{countOf, recordsOf, hasMagic, wrongChecksum, wrongPadding}
@@ -145,7 +146,7 @@ block-mem n i h = Memᴰ·cast (sym (getD-countFrom 0 n i 0 h ∙ zero-add i)) (
 module _ (f : List ℕ) where
   file-causes : Accepted f → (wrongBlockCount f ≡ false) × Clear (flatMap (blockDefects f) (countFrom 0 (blocksIn f)))
   unfolding fileCauses fileDefects
-  file-causes e = clear-parts _ _ e refl
+  file-causes e = clear-parts _ _ (noneOf-iff (fileCauses f) .0 e) refl
 
   pub accepted-block : Accepted f → (i : ℕ) → i < blocksIn f → Clear (blockDefects f i)
   accepted-block e i h = clear-flatMap (blockDefects f) (countFrom 0 (blocksIn f)) .0 (file-causes e .1) i (block-mem (blocksIn f) i h)
@@ -173,12 +174,13 @@ module _ (f : List ℕ) where
   passes-accepted : Passes f → Accepted f
   unfolding fileCauses fileDefects
   passes-accepted p =
-      clear-cons _ _ (wrongBlockCount-iff f .1 (p .whole))
+      noneOf-iff (fileCauses f) .1
+      (clear-cons _ _ (wrongBlockCount-iff f .1 (p .whole))
       (clear-flatMap (blockDefects f) (countFrom 0 (blocksIn f)) .1
       (λ i m.
       let inside = countFrom-mem 0 (blocksIn f) i m in
       let here : i < blocksIn f = omega arith in
-      clear-append (startDefects (blockAt f i) i) (contentDefects f i) .1 (start-iff (blockAt f i) i .1 (p .starts i here), passes-content p i here)))
+      clear-append (startDefects (blockAt f i) i) (contentDefects f i) .1 (start-iff (blockAt f i) i .1 (p .starts i here), passes-content p i here))))
 
 pub accepted-iff : (f : List ℕ) → Accepted f ↔ Passes f
 accepted-iff f = (accepted-passes f, passes-accepted f)

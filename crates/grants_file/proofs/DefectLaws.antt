@@ -9,6 +9,7 @@
 --   sound-accepted          a file in which nothing is wrong is accepted
 --   outcome-done, outcome-refused  an outcome says whether there is a fault
 --   answer-first, answer-defect    an answer by the first defect of a row, and the verdict's
+--   judging-accepted, judging-refused   what an answer says of the causes by which bytes are judged
 -- Assumes nothing.
 use Prim.Native.Nat.{ℕ}
 use mathlib.Core.Logic.{_↔_}
@@ -20,13 +21,15 @@ use native.Mathlib.Omega.{arith}
 use Rattle.lists.proofs.ListLaws.{flatMap-append}
 use Rattle.model.specs.declared.Fault.{Fault}
 use Rattle.model.specs.declared.Outcome.the-variants.{Done, Refused}
-use Rattle.model.specs.Answer.{outcomeAnswer}
-use Rattle.model.specs.Refusal.{Cause, _if_, firstFault}
-use Rattle.model.proofs.RefusalLaws.{causes-absent, firstFault-append, append-absent}
+use Rattle.model.specs.Answer.{accepted, refusal, outcomeAnswer}
+use Rattle.model.specs.Refusal.{Cause, _if_, firstFault, stepBy, refusing}
+use Rattle.model.proofs.AnswerLaws.{refusal-injective, refusal-accepted}
+use Rattle.model.proofs.RefusalLaws.{causes-absent, firstFault-append, append-absent, accepted-none}
+use Rattle.model.proofs.JudgedLaws.{noneOf-iff}
 use Rattle.grants_file.specs.declared.Defect.{Defect}
 use Rattle.grants_file.specs.Defects.{DefectCause, fileDefects, defectFault, isSome, isWrong, firstDefect, defectIn}
-use Rattle.grants_file.specs.Verdict.{causeBy, causesOf, fileCauses}
-use Rattle.grants_file.specs.Answers.{outcomeBy, answerBy, fileAnswer}
+use Rattle.grants_file.specs.Verdict.{causeBy, causesOf, fileCauses, judging}
+use Rattle.grants_file.specs.Answers.{outcomeBy}
 use Rattle.grants_file.specs.FileSets.{Accepted}
 
 pub firstDefect-append : (cs ds : List DefectCause) → firstDefect (cs ++ ds) ≡ cond (isWrong (firstDefect cs)) (firstDefect cs) (firstDefect ds)
@@ -117,7 +120,7 @@ none-wrong (some x) e = absurd (false≢true e)
 
 pub sound-accepted : (f : List ℕ) → false ≡ isWrong (defectIn f) → Accepted f
 unfolding fileCauses
-sound-accepted f e = sym (defectFault-first (fileDefects f)) ∙ none-wrong (defectFault (defectIn f)) e
+sound-accepted f e = noneOf-iff (fileCauses f) .1 (sym (defectFault-first (fileDefects f)) ∙ none-wrong (defectFault (defectIn f)) e)
 
 -- an outcome says whether there is a fault
 pub outcome-done : (o : Option Fault) → outcomeBy o ≡ Done → false ≡ isSome o
@@ -128,14 +131,29 @@ pub outcome-refused : (o : Option Fault) (x : Fault) → outcomeBy o ≡ Refused
 outcome-refused none x e = let z : _≡_ {A = ℕ} 0 1 = cc in absurd (omega arith)
 outcome-refused (some y) x e = refl
 
-outcome-answer : (o : Option Fault) → outcomeAnswer (outcomeBy o) ≡ answerBy o
-outcome-answer none = refl
-outcome-answer (some x) = refl
+module _ (f : List ℕ) where
+  outcome-answer : (o : Option Fault) → outcomeAnswer (outcomeBy o) ≡ stepBy o f [] (record { state = f; answer = accepted []; lent = [] }) .answer
+  outcome-answer none = refl
+  outcome-answer (some x) = refl
 
--- an answer by the first defect of a row
-pub answer-first : (cs : List DefectCause) {x : Defect} → x ≡ firstDefect cs → outcomeAnswer (outcomeBy (defectFault x)) ≡ answerBy (firstFault (causesOf cs))
-answer-first cs {x} e = outcome-answer (defectFault x) ∙ ap answerBy (ap defectFault e ∙ defectFault-first cs)
+  -- an answer by the first defect of a row
+  pub answer-first : (cs : List DefectCause) {x : Defect} → x ≡ firstDefect cs
+      → outcomeAnswer (outcomeBy (defectFault x)) ≡ judging (causesOf cs) f .answer
+  unfolding refusing
+  answer-first cs {x} e = rw (← defectFault-first cs, ← e) (outcome-answer (defectFault x))
 
-pub answer-defect : (f : List ℕ) {x : Defect} → x ≡ defectIn f → outcomeAnswer (outcomeBy (defectFault x)) ≡ fileAnswer f
-unfolding fileAnswer fileCauses
-answer-defect f e = answer-first (fileDefects f) e
+  pub answer-defect : {x : Defect} → x ≡ defectIn f → outcomeAnswer (outcomeBy (defectFault x)) ≡ judging (fileCauses f) f .answer
+  unfolding fileCauses
+  answer-defect e = answer-first (fileDefects f) e
+
+  -- what an answer says of the causes
+  pub judging-accepted : (cs : List Cause) → judging cs f .answer ≡ accepted [] → firstFault cs ≡ none
+  judging-accepted cs e = accepted-none cs f [] _ [] e
+
+  pub judging-refused : (cs : List Cause) (x : Fault) → judging cs f .answer ≡ refusal x → firstFault cs ≡ some x
+  unfolding refusing
+  judging-refused cs x = go (firstFault cs)
+    where
+      go : (o : Option Fault) → stepBy o f [] (record { state = f; answer = accepted []; lent = [] }) .answer ≡ refusal x → o ≡ some x
+      go none e = absurd (refusal-accepted x [] (sym e))
+      go (some y) e = ap some (refusal-injective y x e)

@@ -3,13 +3,13 @@
 --   padding-wrong, padding-sound         the fill
 --   layout-count, layout-padding         the record count, by a test of it, then the fill
 --   header-total .. header-padding       block 0 behind its start
---   record-number .. record-doors        a record
+--   record-number .. record-doors        a record: its number, a check of its values (`askedOf`) as of a request, then its doors
 --   records-wrong, records-next, records-end   the records left, one at a time
 -- Assumes nothing.
 use Prim.Native.Nat.{ℕ, _+_, _-_, _<_, _≤_}
-use mathlib.Core.Path.{_≡_, sym, ap, _∙_}
-use mathlib.Core.Bool.{Bool, true, false}
-use mathlib.Core.List.{List}
+use mathlib.Core.Path.{_≡_, sym, ap, ap₂, _∙_}
+use mathlib.Core.Bool.{Bool, true, false, not}
+use mathlib.Core.List.{List, [], _∷_}
 use native.Mathlib.Numerals.{add-one}
 use native.Mathlib.Omega.{arith}
 use lib.ListN.{getD}
@@ -20,19 +20,26 @@ use Rattle.model.specs.Interval.{Interval}
 use Rattle.model.specs.Limits.{maxGrants}
 use Rattle.model.specs.Box.{doorsOf}
 use Rattle.model.specs.Overlap.{overlapOn}
-use Rattle.model.specs.Arguments.{reversedBox}
+use Rattle.model.specs.declared.RequestFault.{RequestFault}
+use Rattle.model.specs.declared.RequestCheck.{RequestCheck}
+use Rattle.model.specs.declared.RequestCheck.the-variants.{Right, Wrong}
+use Rattle.model.specs.Grant.{touches}
+use Rattle.model.specs.Call.{Request, request}
+use Rattle.model.specs.Arguments.{requestOrder, firstWrong}
 use Rattle.grants_file.specs.declared.Defect.{Defect}
 use Rattle.grants_file.specs.declared.Defect.the-variants.{Sound, Checksum, Mark, BlockNumber, TooManyGrants, BlockCount}
-use Rattle.grants_file.specs.declared.Defect.the-variants.{RecordCount, DoorOrder, Padding, NumberOrder, Kind, Reversed, Doors}
+use Rattle.grants_file.specs.declared.Defect.the-variants.{RecordCount, DoorOrder, Padding, NumberOrder, Doors}
 use Rattle.grants_file.specs.Layout.{numberPlace, headerEnd, recordPlace, kindPlace}
 use Rattle.grants_file.specs.Bytes.{be16At}
-use Rattle.grants_file.specs.Record.{recordNumber, decodeRecord}
+use Rattle.grants_file.specs.Record.{recordNumber, recordRequest, decodeRecord}
 use Rattle.grants_file.specs.Block.{countOf, hasMagic, wrongChecksum, wrongPadding}
 use Rattle.grants_file.specs.File.{blocksFor, blocksIn, blockAt, totalIn, doorsIn}
-use Rattle.grants_file.specs.Defects.{startDefects, paddingDefects, layoutDefects, headerDefects, recordDefects, recordsDefects, isWrong, firstDefect}
+use Rattle.grants_file.specs.Defects.{_when_, startDefects, paddingDefects, layoutDefects, headerDefects}
+use Rattle.grants_file.specs.Defects.{requestDefect, recordDefects, recordsDefects, isWrong, firstDefect}
 use Rattle.grants_file.proofs.RecordSteps.{recordAt, number-at, kind-at}
 use Rattle.grants_file.proofs.BlockSteps.{recordsFrom, records-cons}
 use Rattle.grants_file.proofs.DefectLaws.{front-wrong, front-sound}
+use Rattle.grants_file.proofs.RequestDefectLaws.{checkDefect, firstWrong-defect}
 
 -- the start of a block
 module _ (b : List ℕ) (i : ℕ) where
@@ -107,24 +114,38 @@ module _ (doors : Interval) (i k last : ℕ) (b : List ℕ) (at : ℕ) {g : Gran
   unfolding firstDefect
   record-number h = rw (← number, le-leb (g .number) last h)
 
-  module _ (above : last < g .number) where
-    pub record-kind : 1 < getD b (at + kindPlace) 0 → Kind i k (g .number) ≡ firstDefect (recordDefects doors i k last (recordAt b at))
+  -- the values that the code checks
+  abbrev pub askedOf : Request
+  askedOf = request (g .number) (g .rank) (getD b (at + kindPlace) 0) (g .bounds)
+
+  asked : askedOf ≡ recordRequest (recordAt b at)
+  unfolding decodeRecord
+  asked = ap₂ (λ (h : Grant) (kind : ℕ). request (h .number) (h .rank) kind (h .bounds)) read (sym (kind-at b at))
+
+  module _ (above : last < g .number) {c : RequestCheck} (check : c ≡ firstWrong askedOf requestOrder) where
+    -- the defect by what the check found, and by the doors where it found nothing
+    checked : firstDefect (recordDefects doors i k last (recordAt b at))
+        ≡ checkDefect i k (g .number) c (firstDefect (Doors i k (g .number) when not (touches doors g) ∷ []))
     unfolding firstDefect
-    record-kind h = rw (← number, lt-leb (g .number) last above, kind-at b at, lt-ltb 1 (getD b (at + kindPlace) 0) h)
+    checked =
+        let r = recordAt b at in
+        let touch = Doors i k (recordNumber r) when not (touches doors (decodeRecord r)) in
+        rw (lt-leb (recordNumber r) last (omega (arith, number)))
+        (firstWrong-defect i k (recordNumber r) (recordRequest r) requestOrder (touch ∷ [])
+        ∙ ap (λ (d : RequestCheck). checkDefect i k (recordNumber r) d (firstDefect (touch ∷ []))) (sym (check ∙ ap (λ (q : Request). firstWrong q requestOrder) asked))
+        ∙ ap₂ (λ (n : ℕ) (h : Grant). checkDefect i k n c (firstDefect (Doors i k n when not (touches doors h) ∷ []))) (sym number) (sym read))
 
-    module _ (kind : getD b (at + kindPlace) 0 ≤ 1) where
-      pub record-reversed : true ≡ reversedBox (g .bounds) → Reversed i k (g .number) ≡ firstDefect (recordDefects doors i k last (recordAt b at))
+    pub record-wrong : {x : RequestFault} → c ≡ Wrong x → requestDefect i k (g .number) x ≡ firstDefect (recordDefects doors i k last (recordAt b at))
+    record-wrong e = sym (checked ∙ rw e)
+
+    module _ (right : c ≡ Right) where
+      pub record-sound : true ≡ overlapOn (doorsOf (g .bounds)) doors → Sound ≡ firstDefect (recordDefects doors i k last (recordAt b at))
       unfolding firstDefect
-      record-reversed h = rw (← number, lt-leb (g .number) last above, kind-at b at, le-ltb 1 (getD b (at + kindPlace) 0) kind, ← read, ← h)
+      record-sound h = sym (checked ∙ rw (right, ← h))
 
-      module _ (order : false ≡ reversedBox (g .bounds)) where
-        pub record-sound : true ≡ overlapOn (doorsOf (g .bounds)) doors → Sound ≡ firstDefect (recordDefects doors i k last (recordAt b at))
-        unfolding firstDefect
-        record-sound h = rw (← number, lt-leb (g .number) last above, kind-at b at, le-ltb 1 (getD b (at + kindPlace) 0) kind, ← read, ← order, ← h)
-
-        pub record-doors : false ≡ overlapOn (doorsOf (g .bounds)) doors → Doors i k (g .number) ≡ firstDefect (recordDefects doors i k last (recordAt b at))
-        unfolding firstDefect
-        record-doors h = rw (← number, lt-leb (g .number) last above, kind-at b at, le-ltb 1 (getD b (at + kindPlace) 0) kind, ← read, ← order, ← h)
+      pub record-doors : false ≡ overlapOn (doorsOf (g .bounds)) doors → Doors i k (g .number) ≡ firstDefect (recordDefects doors i k last (recordAt b at))
+      unfolding firstDefect
+      record-doors h = sym (checked ∙ rw (right, ← h))
 
 -- the records from the i-th on, of n
 module _ (doors : Interval) (m last : ℕ) (b : List ℕ) (i n : ℕ) where

@@ -22,35 +22,25 @@ use Rattle.model.specs.declared.Grant.{Grant}
 use Rattle.model.specs.declared.Fault.{Fault}
 use Rattle.model.specs.Answer.{accepted, refusal}
 use Rattle.model.specs.Refusal.{firstFault}
-use Rattle.model.proofs.AnswerLaws.{refusal-injective, refusal-accepted}
+use Rattle.model.proofs.JudgedLaws.{noneOf-iff}
 use Rattle.grants_file.specs.Layout.{recordBytes, blockBytes, recordsPlace, recordsPerBlock}
 use Rattle.grants_file.specs.Record.{decodeRecord}
 use Rattle.grants_file.specs.Block.{recordsOf}
 use Rattle.grants_file.specs.File.{countIn, blockAt, totalIn, grantsIn}
-use Rattle.grants_file.specs.Verdict.{fileCauses}
-use Rattle.grants_file.specs.Answers.{answerBy, fileAnswer}
+use Rattle.grants_file.specs.Verdict.{fileCauses, judging}
 use Rattle.grants_file.specs.FileSets.{Accepted}
+use Rattle.grants_file.proofs.DefectLaws.{judging-accepted, judging-refused}
 use Rattle.grants_file.proofs.CauseLaws.{RightHeader, Whole, accepted-iff}
 use Rattle.grants_file.proofs.FileLaws.{grantsOf, length-grantsIn, chunk-grantsIn}
 use Rattle.grants_file.proofs.RecordSteps.{recordAt}
 
 -- what the verdict says of the causes
 module _ (f : List ℕ) where
-  pub answer-accepted : fileAnswer f ≡ accepted [] → Accepted f
-  unfolding fileAnswer
-  answer-accepted = go (firstFault (fileCauses f))
-    where
-      go : (o : Option Fault) → answerBy o ≡ accepted [] → o ≡ none
-      go none e = refl
-      go (some x) e = absurd (refusal-accepted x [] e)
+  pub answer-accepted : judging (fileCauses f) f .answer ≡ accepted [] → Accepted f
+  answer-accepted e = noneOf-iff (fileCauses f) .1 (judging-accepted f (fileCauses f) e)
 
-  pub answer-refused : (x : Fault) → fileAnswer f ≡ refusal x → firstFault (fileCauses f) ≡ some x
-  unfolding fileAnswer
-  answer-refused x = go (firstFault (fileCauses f))
-    where
-      go : (o : Option Fault) → answerBy o ≡ refusal x → o ≡ some x
-      go none e = absurd (refusal-accepted x [] (sym e))
-      go (some y) e = ap some (refusal-injective y x e)
+  pub answer-refused : (x : Fault) → judging (fileCauses f) f .answer ≡ refusal x → firstFault (fileCauses f) ≡ some x
+  answer-refused x e = judging-refused f (fileCauses f) x e
 
 -- where the record of grant i lies
 abbrev pub placeOf : ℕ → ℕ

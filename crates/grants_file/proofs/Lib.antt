@@ -2,6 +2,7 @@
 pub mod BytesLaws
 pub mod RecordLaws
 pub mod DefectLaws
+mod RequestDefectLaws
 pub mod RightRecordLaws
 pub mod BlockLaws
 pub mod FileLaws

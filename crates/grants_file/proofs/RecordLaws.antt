@@ -1,12 +1,13 @@
 -- Laws of specs/Record: a grant written in 16 bytes, and read again.
+--   request-encode          the values of a written grant are its own
 --   decode-encode           what is written is read
 --   encode-decode           16 bytes of a known kind are written again as they were
 --   length-encodeRecord     16 bytes
 --   encodeRecord-below      each below 256
 --   decodeRecord-fits       the grant of any 16 bytes has the values of a grant
 -- Assumes nothing.
-use Prim.Native.Nat.{ℕ, zero, suc, _+_, _≤_, _<_}
-use mathlib.Core.Path.{_≡_, refl, sym, _∙_}
+use Prim.Native.Nat.{ℕ, _+_, _≤_, _<_}
+use mathlib.Core.Path.{_≡_, refl, sym, ap, _∙_}
 use mathlib.Core.List.{List, [], _∷_, _++_, map, flatMap}
 use native.Mathlib.Omega.{arith}
 use native.Mathlib.Nat.{div-add-mod'}
@@ -17,26 +18,24 @@ use Rattle.lists.proofs.ListLaws.{elements-joined}
 use Rattle.model.specs.declared.Kind.{Kind}
 use Rattle.model.specs.declared.Kind.the-variants.{Bars, Opens}
 use Rattle.model.specs.declared.Grant.{Grant}
-use Rattle.model.specs.Kind.{kindNumber, kindOf}
+use Rattle.model.specs.Kind.{kindNumber}
 use Rattle.model.specs.Box.{boxValues}
+use Rattle.model.specs.Call.{requested, requestOf}
 use Rattle.model.specs.Values.{wordValues, byteValues, Below, GrantFits}
+use Rattle.model.proofs.ArgumentLaws.{kindNumber-kindOf, requested-requestOf}
 use Rattle.grants_file.specs.Layout.{recordBytes}
 use Rattle.grants_file.specs.Bytes.{be16, be16At}
-use Rattle.grants_file.specs.Record.{encodeRecord, decodeRecord, kindByte}
+use Rattle.grants_file.specs.Record.{encodeRecord, recordRequest, decodeRecord, kindByte}
 use Rattle.grants_file.proofs.BytesLaws.{below-nil, below-cons, below-append, below-flatMap, getD-below, be16-below, be16-be16At, be16At-below}
 
-kindOf-kindNumber : (k : Kind) → kindOf (kindNumber k) ≡ k
-kindOf-kindNumber Bars = refl
-kindOf-kindNumber Opens = refl
-
-pub decode-encode : (g : Grant) → decodeRecord (encodeRecord g) ≡ g
-unfolding encodeRecord decodeRecord flatMap
-decode-encode g =
+pub request-encode : (g : Grant) → recordRequest (encodeRecord g) ≡ requestOf g
+unfolding encodeRecord flatMap
+request-encode g =
     λ i.
     record {
       number = div-add-mod' (g .number) 256 i;
       rank = g .rank;
-      kind = kindOf-kindNumber (g .kind) i;
+      kind = kindNumber (g .kind);
       bounds =
           record {
             «staff_from» = div-add-mod' (g .bounds .«staff_from») 256 i;
@@ -48,14 +47,13 @@ decode-encode g =
           };
     }
 
+pub decode-encode : (g : Grant) → decodeRecord (encodeRecord g) ≡ g
+unfolding decodeRecord
+decode-encode g = ap requested (request-encode g) ∙ requested-requestOf g
+
 pub length-encodeRecord : (g : Grant) → length (encodeRecord g) ≡ recordBytes
 unfolding encodeRecord flatMap
 length-encodeRecord g = refl
-
-kindNumber-kindOf : (n : ℕ) → n ≤ 1 → kindNumber (kindOf n) ≡ n
-kindNumber-kindOf zero h = refl
-kindNumber-kindOf (suc zero) h = refl
-kindNumber-kindOf (suc (suc n)) h = absurd (omega arith)
 
 pub encode-decode : (r : List ℕ) → length r ≡ recordBytes → Below byteValues r → kindByte r ≤ 1 → encodeRecord (decodeRecord r) ≡ r
 unfolding encodeRecord decodeRecord flatMap countFrom

@@ -9,46 +9,48 @@
 -- Assumes nothing.
 use Prim.Native.Nat.{ℕ, suc, _≤_, _<_}
 use mathlib.Core.Logic.{_↔_}
-use mathlib.Core.Path.{_≡_, refl, ap}
+use mathlib.Core.Path.{_≡_, refl, sym, ap, subst}
 use mathlib.Core.Bool.{true, false, not}
 use mathlib.Core.List.{List, [], _∷_, _++_, map, List·Memᴰ, List·Memᴰ·head, List·Memᴰ·tail}
 use native.Mathlib.Omega.{arith}
-use borrow.Author.Tests.{leb-false, lt-leb, ltb-false, le-ltb, not-false}
-use Rattle.model.specs.declared.Kind.{Kind}
-use Rattle.model.specs.declared.Kind.the-variants.{Bars, Opens}
+use borrow.Author.Tests.{leb-false, lt-leb, not-false}
 use Rattle.model.specs.declared.Grant.{Grant}
-use Rattle.model.specs.Kind.{kindNumber}
 use Rattle.model.specs.Interval.{Interval}
 use Rattle.model.specs.Grant.{touches}
-use Rattle.model.specs.Arguments.{reversedBox}
-use Rattle.grants_file.specs.Record.{encodeRecord, decodeRecord, recordNumber, kindByte}
-use Rattle.grants_file.specs.Defects.{recordDefects, recordsDefects}
+use Rattle.model.specs.Judged.{NoneOf}
+use Rattle.model.specs.Call.{Request, requestOf}
+use Rattle.model.specs.Arguments.{requestOrder, requestCauses}
+use Rattle.model.proofs.ArgumentLaws.{request-kind}
+use Rattle.grants_file.specs.declared.Defect.the-variants.{Doors}
+use Rattle.grants_file.specs.Record.{encodeRecord, recordRequest, decodeRecord, recordNumber, kindByte}
+use Rattle.grants_file.specs.Defects.{_when_, requestDefects, recordDefects, recordsDefects}
 use Rattle.grants_file.specs.FileSets.{Ascending, ascending-none, ascending-more}
-use Rattle.grants_file.proofs.RecordLaws.{decode-encode}
+use Rattle.grants_file.proofs.RecordLaws.{request-encode, decode-encode}
 use Rattle.grants_file.proofs.DefectLaws.{Clear, clear-nil, clear-cons, clear-parts, clear-append}
+use Rattle.grants_file.proofs.RequestDefectLaws.{clear-request}
 
 pub record RightRecord (doors : Interval) (last : ℕ) (r : List ℕ) : Type 0 where
   pub number : last < recordNumber r
-  pub kind : kindByte r ≤ 1
-  pub order : reversedBox (decodeRecord r .bounds) ≡ false
+  pub faultless : NoneOf (requestCauses (recordRequest r))
   pub touching : touches doors (decodeRecord r) ≡ true
 
 record-iff : (doors : Interval) (i k last : ℕ) (r : List ℕ) → Clear (recordDefects doors i k last r) ↔ RightRecord doors last r
-record-iff doors i k last r = (
-  (λ e.
-      let number = clear-parts _ _ e refl in
-      let kind = clear-parts _ _ (number .1) refl in
-      let order = clear-parts _ _ (kind .1) refl in
-      record {
-        number = leb-false (recordNumber r) last (number .0);
-        kind = ltb-false 1 (kindByte r) (kind .0);
-        order = order .0;
-        touching = not-false (touches doors (decodeRecord r)) (clear-parts _ _ (order .1) refl .0);
-      }),
-  (λ h.
-      clear-cons _ _ (lt-leb (recordNumber r) last (h .number))
-      (clear-cons _ _ (le-ltb 1 (kindByte r) (h .kind)) (clear-cons _ _ (h .order) (clear-cons _ _ (ap not (h .touching)) clear-nil)))),
-)
+record-iff doors i k last r =
+    let request = clear-request i k (recordNumber r) (recordRequest r) requestOrder in
+    let doors-test = Doors i k (recordNumber r) when not (touches doors (decodeRecord r)) in
+    let joined = clear-append (requestDefects i k r) (doors-test ∷ []) in (
+      (λ e.
+          let number = clear-parts _ _ e refl in
+          let rest = joined .0 (number .1) in
+          record {
+            number = leb-false (recordNumber r) last (number .0);
+            faultless = request .0 (rest .0);
+            touching = not-false (touches doors (decodeRecord r)) (clear-parts _ _ (rest .1) refl .0);
+          }),
+      (λ h.
+          clear-cons _ _ (lt-leb (recordNumber r) last (h .number))
+          (joined .1 (request .1 (h .faultless), clear-cons _ _ (ap not (h .touching)) clear-nil))),
+    )
 
 -- records that follow each other
 unfoldable pub RightRecords : Interval → ℕ → List (List ℕ) → Type 0
@@ -94,34 +96,33 @@ module _ (doors : Interval) where
 
   pub right-kinds : (last : ℕ) (rs : List (List ℕ)) → RightRecords doors last rs → (r : List ℕ) → List·Memᴰ r rs → kindByte r ≤ 1
   unfolding RightRecords
-  right-kinds last (s ∷ ss) h r (List·Memᴰ·head q) = rw q (h .0 .kind)
+  right-kinds last (s ∷ ss) h r (List·Memᴰ·head q) = rw q (request-kind (recordRequest s) (h .0 .faultless))
   right-kinds last (s ∷ ss) h r (List·Memᴰ·tail m) = right-kinds (recordNumber s) ss (h .1) r m
 
 -- what a set of a file asks of one grant
 pub record RightGrant (doors : Interval) (g : Grant) : Type 0 where
-  pub order : reversedBox (g .bounds) ≡ false
+  pub faultless : NoneOf (requestCauses (requestOf g))
   pub touching : touches doors g ≡ true
 
 recordNumber-encode : (g : Grant) → recordNumber (encodeRecord g) ≡ g .number
 unfolding decodeRecord
 recordNumber-encode g = ap (λ (h : Grant). h .number) (decode-encode g)
 
-kind-known : (k : Kind) → kindNumber k ≤ 1
-kind-known Bars = omega arith
-kind-known Opens = omega arith
+abbrev FreeOf : Request → Type 0
+FreeOf r = NoneOf (requestCauses r)
 
 module _ (doors : Interval) where
   record-encode : (last : ℕ) (g : Grant) → RightRecord doors last (encodeRecord g) ↔ ((last < g .number) × RightGrant doors g)
   unfolding encodeRecord
   record-encode last g = (
-    (λ h.
-        let same = decode-encode g in
-        (omega (arith, h .number, recordNumber-encode g), record { order = rw (← same) (h .order); touching = rw (← same) (h .touching) })),
+    (λ h. (
+      omega (arith, h .number, recordNumber-encode g),
+      record { faultless = subst FreeOf (request-encode g) (h .faultless); touching = rw (← decode-encode g) (h .touching) },
+    )),
     (λ h.
         record {
           number = omega (arith, h .0, recordNumber-encode g);
-          kind = kind-known (g .kind);
-          order = rw decode-encode (h .1 .order);
+          faultless = subst FreeOf (sym (request-encode g)) (h .1 .faultless);
           touching = rw decode-encode (h .1 .touching);
         }),
   )

@@ -179,7 +179,7 @@ module _ (doors : Interval) (gs : List Grant) where
 
 pub fileOf-accepted : (doors : Interval) (gs : List Grant) → FileSet doors gs → Accepted (fileOf doors gs)
 fileOf-accepted doors gs s =
-    let each : (g : Grant) → List·Memᴰ g gs → RightGrant doors g = λ g m. record { order = s .each g m .order; touching = s .each g m .touching } in
+    let each : (g : Grant) → List·Memᴰ g gs → RightGrant doors g = λ g m. record { faultless = s .each g m .faultless; touching = s .each g m .touching } in
     let right = right-encode doors 0 gs .1 (s .ascending, each) in
     accepted-iff (fileOf doors gs) .1 (written-passes doors gs (s .few) (s .doors .order) right)
 
@@ -243,7 +243,7 @@ module _ (f : List ℕ) (below : Below byteValues f) (p : Passes f) where
         doors = record { order = p .header .order; fits = be16At-below f 10 below };
         few = omega (arith, length-grantsIn f, p .header .few);
         ascending = set .0;
-        each = λ g m. record { fits = grants-fit g m; order = set .1 g m .order; touching = set .1 g m .touching };
+        each = λ g m. record { fits = grants-fit g m; faultless = set .1 g m .faultless; touching = set .1 g m .touching };
       }
 
 -- the accepted files

@@ -4,6 +4,7 @@
 --   paddingDefects b i at          its fill, from `at` on
 --   layoutDefects b i t            its record count, by a test t of it, and its fill
 --   headerDefects f                the rest of block 0: n, the block count against n, the order of the doors, the fill
+--   requestDefects                 in record k of block i, what is wrong in its values as in those of a request (model/specs/Arguments)
 --   recordDefects, recordsDefects  in record k of block i, counted from 1, and in its records from the k-th on
 --   blockDefects f i, fileDefects f    all of block i, the start first, and all of a file
 --   defectFault x                  the fault that a defect stands for
@@ -12,7 +13,7 @@
 -- Changed by cards 2 and 3. Assumes nothing: these are definitions.
 use Prim.Native.Nat.{ℕ, zero, suc, _-_}
 use mathlib.Core.Bool.{Bool, true, false, cond, not, _&&_}
-use mathlib.Core.List.{List, [], _∷_, _++_, flatMap}
+use mathlib.Core.List.{List, [], _∷_, _++_, map, flatMap}
 use mathlib.Core.Option.{Option, none, some}
 use lib.Dec.{leb, ltb, eqb}
 use Rattle.lists.specs.Ranges.{countFrom}
@@ -21,13 +22,15 @@ use Rattle.model.specs.declared.Fault.the-variants.{BadLength, BadLayout, BadCh
 use Rattle.model.specs.Limits.{maxGrants}
 use Rattle.model.specs.Interval.{Interval, reversed}
 use Rattle.model.specs.Grant.{touches}
-use Rattle.model.specs.Arguments.{reversedBox, unknownKind}
+use Rattle.model.specs.declared.RequestFault.{RequestFault}
+use Rattle.model.specs.declared.RequestFault.the-variants as wrong
+use Rattle.model.specs.Arguments.{requestOrder, wrongIn}
 use Rattle.grants_file.specs.declared.Defect.{Defect}
 use Rattle.grants_file.specs.declared.Defect.the-variants.{Sound, Length, Checksum, Mark, BlockNumber, TooManyGrants, BlockCount}
 use Rattle.grants_file.specs.declared.Defect.the-variants.{RecordCount, DoorOrder, Padding, NumberOrder, Kind, Reversed, Doors}
 use Rattle.grants_file.specs.Layout.{numberPlace, headerEnd, recordBytes, recordPlace, lastRecordPlace}
 use Rattle.grants_file.specs.Bytes.{be16At, bytesAt}
-use Rattle.grants_file.specs.Record.{recordNumber, kindByte, decodeRecord}
+use Rattle.grants_file.specs.Record.{recordNumber, recordRequest, decodeRecord}
 use Rattle.grants_file.specs.Block.{countOf, recordsOf, hasMagic, wrongChecksum, wrongPadding}
 use Rattle.grants_file.specs.File.{blocksFor, countIn, blocksIn, blockAt, wrongBlockCount, totalIn, doorsIn}
 
@@ -59,14 +62,21 @@ headerDefects f =
     ∷ DoorOrder (doorsIn f .from) (doorsIn f .to) when reversed (doorsIn f)
     ∷ paddingDefects (blockAt f 0) 0 headerEnd
 
+-- as what a fault of grant's arguments is told in a record; number 0 is told as one that is not above the last
+abbrev pub requestDefect : ℕ → ℕ → ℕ → RequestFault → Defect
+requestDefect i k number wrong.ZeroNumber = NumberOrder i k number
+requestDefect i k number wrong.UnknownKind = Kind i k number
+requestDefect i k number wrong.Reversed = Reversed i k number
+
+abbrev pub requestDefects : ℕ → ℕ → List ℕ → List DefectCause
+requestDefects i k r = map (λ x. requestDefect i k (recordNumber r) x when wrongIn (recordRequest r) x) requestOrder
+
 -- r are the record's bytes, and `last` is the number of the record before it, 0 at the first
 abbrev pub recordDefects : Interval → ℕ → ℕ → ℕ → List ℕ → List DefectCause
 recordDefects doors i k last r =
     NumberOrder i k (recordNumber r) when leb (recordNumber r) last
-    ∷ Kind i k (recordNumber r) when unknownKind (kindByte r)
-    ∷ Reversed i k (recordNumber r) when reversedBox (decodeRecord r .bounds)
-    ∷ Doors i k (recordNumber r) when not (touches doors (decodeRecord r))
-    ∷ []
+    ∷ requestDefects i k r
+    ++ (Doors i k (recordNumber r) when not (touches doors (decodeRecord r)) ∷ [])
 
 unfoldable pub recordsDefects : Interval → ℕ → ℕ → ℕ → List (List ℕ) → List DefectCause
 recordsDefects doors i k last [] = []

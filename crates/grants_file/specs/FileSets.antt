@@ -1,7 +1,7 @@
 -- The sets that files stand for (document 01, "The grants file"), and what is said of sets of grants.
 --   Accepted f            no cause of a refusal holds in the bytes f
 --   DoorRange d           from at most to, both of 16 bits
---   FileSet d gs          gs, ascending by number, none twice, are at most 2,048 grants that touch the doors d, each free of faults 2 to 4
+--   FileSet d gs          gs, ascending by number, none twice, are at most 2,048 grants that touch the doors d, each with no fault of a grant's arguments
 --   Ordering gs hs        hs are the grants gs in some order
 --   DiffersAt n gs hs     the number n is in one set alone, or in both with unequal grants
 --   LeastDifference n     the lowest such number
@@ -9,9 +9,8 @@
 use Prim.Native.Nat.{ℕ, _≤_, _<_}
 use mathlib.Core.Logic.{_⊎_}
 use mathlib.Core.Path.{_≡_}
-use mathlib.Core.Bool.{true, false}
+use mathlib.Core.Bool.{true}
 use mathlib.Core.List.{List, [], _∷_, List·Memᴰ}
-use mathlib.Core.Option.{none}
 use lib.Dec.{T}
 use lib.ListN.{length}
 use Rattle.lists.specs.Sort.{sortBy}
@@ -19,13 +18,14 @@ use Rattle.model.specs.declared.Grant.{Grant}
 use Rattle.model.specs.Limits.{maxGrants}
 use Rattle.model.specs.Interval.{Interval}
 use Rattle.model.specs.Grant.{touches}
-use Rattle.model.specs.Refusal.{firstFault}
-use Rattle.model.specs.Arguments.{reversedBox}
+use Rattle.model.specs.Judged.{NoneOf}
+use Rattle.model.specs.Call.{requestOf}
+use Rattle.model.specs.Arguments.{requestCauses}
 use Rattle.grants_file.specs.Verdict.{fileCauses}
 use Rattle.model.specs.Values.{wordValues, GrantFits}
 
 abbrev pub Accepted : List ℕ → Type 0
-Accepted f = firstFault (fileCauses f) ≡ none
+Accepted f = NoneOf (fileCauses f)
 
 pub record DoorRange (d : Interval) : Type 0 where
   pub order : d .from ≤ d .to
@@ -38,7 +38,7 @@ pub data Ascending : ℕ → List Grant → Type 0 where
 
 pub record FileGrant (d : Interval) (g : Grant) : Type 0 where
   pub fits : GrantFits g
-  pub order : reversedBox (g .bounds) ≡ false
+  pub faultless : NoneOf (requestCauses (requestOf g))
   pub touching : touches d g ≡ true
 
 pub record FileSet (d : Interval) (gs : List Grant) : Type 0 where

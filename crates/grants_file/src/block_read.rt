@@ -7,8 +7,7 @@ ghost use Rattle.grants_file.specs.Layout.{recordsPerBlock};
 ghost use Rattle.grants_file.specs.Block.{countOf};
 ghost use Rattle.grants_file.specs.File.{blocksIn, blockAt};
 ghost use Rattle.grants_file.specs.Defects.{firstDefect};
-ghost use Rattle.grants_file.specs.BlockRead.{notInFile, wrongCount, readDefects, recordsPart, partOf};
-ghost use Rattle.grants_file.specs.Answers.{readAnswer};
+ghost use Rattle.grants_file.specs.BlockRead.{notInFile, wrongCount, readDefects, blockCall, recordsPart, partAt, Occupies};
 use crate::Defect;
 use crate::block::count_of;
 use crate::block_defects::layout_defect;
@@ -70,7 +69,7 @@ fn read_defect(file: &[u8], number: usize) -> Defect
 
 // The verdict on a block: 10, 12, 11 or accepted.
 pub fn block_verdict(file: &[u8], block: u64) -> Outcome
-    ensures { λ r. ⌜ outcomeAnswer r ≡ readAnswer (now (file .entry)) block ⌝ }
+    ensures { λ r. ⌜ outcomeAnswer r ≡ blockCall (now (file .entry)) block .answer ⌝ }
 {
     if not_in_file(file, block) {
         return Outcome::Refused(Fault::BadLength);
@@ -81,7 +80,7 @@ pub fn block_verdict(file: &[u8], block: u64) -> Outcome
 // The part of the file that a block's records occupy.
 fn records_part(file: &[u8], number: usize) -> &[u8]
     requires { ⌜ (number < blocksIn (now file)) × (countOf (blockAt (now file) number) ≤ recordsPerBlock) ⌝ }
-    ensures { λ r. ⌜ now r ≡ recordsPart (now (file .entry)) number ⌝ }
+    ensures { λ r. ⌜ Occupies (recordsPart (now (file .entry)) number) (file .entry) r ⌝ }
 {
     let count = count_of(block_at(file, number));
     let start = BLOCK_BYTES * number + RECORDS_PLACE;
@@ -91,7 +90,7 @@ fn records_part(file: &[u8], number: usize) -> &[u8]
 
 // The records of an accepted block, handed back as the part of the file that they occupy.
 pub fn block_part(file: &[u8], block: u64) -> &[u8]
-    ensures { λ r. ⌜ now r ≡ partOf (now (file .entry)) block ⌝ }
+    ensures { λ r. ⌜ Occupies (partAt (now (file .entry)) block) (file .entry) r ⌝ }
 {
     let verdict = block_verdict(file, block);
     let Outcome::Done = verdict else {

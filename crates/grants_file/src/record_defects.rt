@@ -4,7 +4,7 @@ ghost use Prim.Native.Nat.{_+_, _<_, _≤_};
 ghost use lib.ListN.{length};
 ghost use Rattle.grants_file.specs.Layout.{blockBytes, recordsPerBlock};
 ghost use Rattle.grants_file.specs.Block.{recordIn, recordsOf};
-ghost use Rattle.grants_file.specs.Defects.{recordDefects, recordsDefects, firstDefect};
+ghost use Rattle.grants_file.specs.Defects.{requestDefect, recordDefects, recordsDefects, firstDefect};
 use crate::Defect;
 use crate::bytes::be16_at;
 use crate::defects::is_wrong;
@@ -12,8 +12,33 @@ use crate::layout::KIND_PLACE;
 use crate::layout::RECORD_BYTES;
 use crate::layout::RECORDS_PLACE;
 use crate::record::decode_record;
-use model::bounds::is_reversed;
+use model::RequestCheck;
+use model::RequestFault;
+use model::arguments::check_request;
 use model::bounds::overlap_on;
+
+// As what a fault of grant's arguments is told in a record.
+fn request_defect(wrong: RequestFault, block: usize, place: usize, number: u16) -> Defect
+    ensures { λ r. ⌜ r ≡ requestDefect block place number wrong ⌝ }
+{
+    match wrong {
+        RequestFault::ZeroNumber => Defect::NumberOrder {
+            block,
+            place,
+            number,
+        },
+        RequestFault::UnknownKind => Defect::Kind {
+            block,
+            place,
+            number,
+        },
+        RequestFault::Reversed => Defect::Reversed {
+            block,
+            place,
+            number,
+        },
+    }
+}
 
 // Fault 13's causes in record i, from 0 on.
 fn record_defect(block: &[u8], number: usize, i: usize, from: u16, to: u16, last: u16) -> Defect
@@ -30,28 +55,20 @@ fn record_defect(block: &[u8], number: usize, i: usize, from: u16, to: u16, last
             number: g.number,
         };
     }
-    if 1 < block[at + KIND_PLACE] {
-        return Defect::Kind {
-            block: number,
-            place,
-            number: g.number,
-        };
-    }
     let b = g.bounds;
-    if is_reversed(b) {
-        return Defect::Reversed {
-            block: number,
-            place,
-            number: g.number,
-        };
-    }
-    if overlap_on(b.door_from, b.door_to, from, to) {
-        return Defect::Sound;
-    }
-    Defect::Doors {
-        block: number,
-        place,
-        number: g.number,
+    let check = check_request(g.number, g.rank, block[at + KIND_PLACE], b);
+    match check {
+        RequestCheck::Wrong(wrong) => request_defect(wrong, number, place, g.number),
+        RequestCheck::Right => {
+            if overlap_on(b.door_from, b.door_to, from, to) {
+                return Defect::Sound;
+            }
+            Defect::Doors {
+                block: number,
+                place,
+                number: g.number,
+            }
+        }
     }
 }
 

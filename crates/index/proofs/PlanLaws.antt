@@ -1,10 +1,6 @@
 -- How grant, revoke and start come to their answer, test by test.
---   grant-pool, grant-zero, grant-kind, grant-reversed, grant-broken, grant-live, grant-absent   grant's line, in its order
---   slot-descent, slot-broken, free-above, free-none, free-next-above, free-planned   the way down and the free head
---   plan-inserts, grant-refused, grant-done     what grant stores and leaves
---   absent-line                                 where the number isn't found, the way down and the free head alone decide
---   planned-as                                  a plan, of an equal request
---   added-refused, added-done, added-grant         what is left where the number is known to be new; it is what grant leaves
+--   grant-pool, grant-wrong, grant-broken, grant-live, grant-absent   grant's line, in its order
+--   grant-refused, grant-done                   what grant leaves
 --   revoke-pool, revoke-zero, revoke-broken, revoke-absent, revoke-removal-broken, revoke-planned    revoke's line
 --   hit-deep, hit-step, plan-removes, revoke-refused, revoke-done   what revoke stores and leaves
 --   start-refused, start-done
@@ -17,43 +13,41 @@ use mathlib.Core.Option.{none, some}
 use native.Mathlib.Omega.{arith}
 use lib.Dec.{eqb·suc-zero}
 use lib.ListN.{length}
-use borrow.Author.Tests.{lt-ltb, le-ltb, eq-eqb, ne-eqb}
+use borrow.Author.Tests.{eq-eqb, ne-eqb}
 use Rattle.model.specs.declared.Fault.{Fault}
-use Rattle.model.specs.declared.Fault.the-variants.{BadPool, Reversed, ZeroNumber, UnknownKind, AlreadyLive, Full, NotLive, BrokenLinks}
-use Rattle.model.specs.declared.Grant.{Grant}
+use Rattle.model.specs.declared.Fault.the-variants.{BadPool, ZeroNumber, AlreadyLive, NotLive, BrokenLinks}
+use Rattle.model.specs.declared.RequestFault.{RequestFault}
+use Rattle.model.specs.declared.RequestCheck.{RequestCheck}
+use Rattle.model.specs.declared.RequestCheck.the-variants.{Right, Wrong}
 use Rattle.model.specs.declared.Outcome.the-variants as outcome
 use Rattle.model.specs.Answer.{outcomeAnswer}
-use Rattle.model.specs.Refusal.{Cause, _if_, firstFault, refusing}
-use Rattle.model.specs.Arguments.{reversedBox}
+use Rattle.model.specs.Refusal.{firstFault, refusing}
+use Rattle.model.specs.Arguments.{requestOrder, faultOf, requestCauses, firstWrong}
 use Rattle.model.specs.Call.{Request, requested}
+use Rattle.model.proofs.RefusalLaws.{firstFault-front}
+use Rattle.model.proofs.ArgumentLaws.{checkFault, firstWrong-fault}
 use Rattle.geometry.specs.Levels.{levels}
-use Rattle.geometry.specs.Point.{pointOf}
 use Rattle.pool.specs.Capacity.{Sized, capacityOf, wrongLength, wrongPool}
 use Rattle.pool.specs.Fresh.{freshPool}
 use Rattle.pool.proofs.CapacityLaws.{cell-inPool, capacityOf-poolLength}
-use Rattle.adt.specs.Search.{broken}
-use Rattle.adt.specs.Insert.{blankAt, descend, freeHead, nextFree, freeBroken, inserted}
-use Rattle.adt.specs.Insert as insert
+use Rattle.adt.specs.Insert.{inserted}
 use Rattle.adt.specs.Remove.{terminal, follow, terminalFrom, removed}
 use Rattle.adt.specs.Remove as remove
-use Rattle.adt.specs.declared.insert.Slot.{Slot}
-use Rattle.adt.specs.WalkResult.{insertionWalkOf, FreeSlot, RemovalStep, Removable}
-use Rattle.adt.proofs.WithinLaws.{descent-within, follow-within}
+use Rattle.adt.specs.WalkResult.{RemovalStep, Removable}
+use Rattle.adt.proofs.WithinLaws.{follow-within}
+use Rattle.steps.specs.declared.insertion.Insertion.{Insertion}
+use Rattle.steps.specs.declared.insertion.Insertion.the-variants as insertion
+use Rattle.steps.specs.Insertions.{InsertionPlanned, SlotPlanned}
+use Rattle.steps.proofs.InsertionLaws.{walkCauses, to-walks, absent-line}
 use Rattle.index.specs.declared.find.NumberHit.the-variants as hit
-use Rattle.index.specs.declared.grant.Insertion.{Insertion}
-use Rattle.index.specs.declared.grant.Insertion.the-variants as insertion
 use Rattle.index.specs.declared.revoke.Removal.the-variants as removal
-use Rattle.calls.specs.Walks.{numberSearch, hitsOf, insertionWalk, removalOf}
-use Rattle.calls.specs.Causes.{numberLive, noFreeCell, grantBroken, revokeBroken}
+use Rattle.calls.specs.Walks.{numberSearch, removalOf}
+use Rattle.calls.specs.Causes.{grantBroken, revokeBroken}
 use Rattle.calls.specs.Order.{startOrder, grantOrder, revokeOrder}
 use Rattle.calls.specs.Calls.{startCall, grantCall, revokeCall, grantLine}
 use Rattle.calls.specs.Contract.{Leaves}
 use Rattle.index.specs.NumberSearch.{NumberFound}
-use Rattle.index.specs.Plans.{slotOrder, added, InsertionPlanned, SlotPlanned, GrantPlanned, RemovalPlanned}
-
--- a plan, of an equal request
-pub planned-as : (w : List ℕ) {r r′ : Request} → r ≡ r′ → {p p′ : Insertion} → p ≡ p′ → SlotPlanned w r p → SlotPlanned w r′ p′
-planned-as w {r} {r′} er {p} ep i = subst (SlotPlanned w r′) ep (subst (λ (x : Request). SlotPlanned w x p) er i)
+use Rattle.index.specs.Plans.{GrantPlanned, RemovalPlanned}
 
 -- grant's line, as far as its tests have come
 module _ (w : List ℕ) (r : Request) where
@@ -61,93 +55,33 @@ module _ (w : List ℕ) (r : Request) where
   unfolding InsertionPlanned grantOrder firstFault
   grant-pool e = rw e
 
-  module _ (p : wrongPool w ≡ false) where
-    pub grant-zero : r .number ≡ 0 → GrantPlanned w r (insertion.Refused ZeroNumber)
+  module _ (p : wrongPool w ≡ false) {c : RequestCheck} (check : c ≡ firstWrong r requestOrder) where
+    -- what the check of the arguments says of their causes
+    checked : firstFault (requestCauses r) ≡ checkFault c
+    checked = sym (firstWrong-fault r requestOrder) ∙ ap checkFault (sym check)
+
+    pub grant-wrong : {x : RequestFault} → c ≡ Wrong x → {f : Fault} → f ≡ faultOf x → GrantPlanned w r (insertion.Refused f)
     unfolding InsertionPlanned grantOrder firstFault
-    grant-zero e = rw (p, eq-eqb (r .number) 0 e)
+    grant-wrong {x} e same = rw (p, same) (firstFault-front (requestCauses r) (walkCauses w r) (faultOf x) (checked ∙ ap checkFault e))
 
-    module _ (n : ¬ (r .number ≡ 0)) where
-      pub grant-kind : 1 < r .kind → GrantPlanned w r (insertion.Refused UnknownKind)
-      unfolding InsertionPlanned grantOrder firstFault
-      grant-kind h = rw (p, ne-eqb (r .number) 0 n, lt-ltb 1 (r .kind) h)
+    module _ (right : c ≡ Right) where
+      faultless : firstFault (requestCauses r) ≡ none
+      faultless = checked ∙ ap checkFault right
 
-      module _ (k : r .kind ≤ 1) where
-        pub grant-reversed : reversedBox (r .bounds) ≡ true → GrantPlanned w r (insertion.Refused Reversed)
-        unfolding InsertionPlanned grantOrder firstFault
-        grant-reversed e = rw (p, ne-eqb (r .number) 0 n, le-ltb 1 (r .kind) k, e)
+      pub grant-broken : NumberFound w (r .number) hit.Broken → GrantPlanned w r (insertion.Refused BrokenLinks)
+      unfolding InsertionPlanned NumberFound firstFault grantBroken
+      grant-broken f = to-walks w r p faultless ∙ rw f
 
-        module _ (b : reversedBox (r .bounds) ≡ false) where
-          -- the arguments are right, and the walks decide
-          to-walks : firstFault (grantLine w r)
-              ≡ firstFault (BrokenLinks if grantBroken w r ∷ AlreadyLive if numberLive (hitsOf (numberSearch w (r .number))) ∷ Full if noFreeCell w ∷ [])
-          unfolding grantOrder firstFault
-          to-walks = rw (p, ne-eqb (r .number) 0 n, le-ltb 1 (r .kind) k, b)
+      pub grant-live : (cell level link : ℕ) → NumberFound w (r .number) (hit.At cell level link)
+          → GrantPlanned w r (insertion.Refused AlreadyLive)
+      unfolding InsertionPlanned NumberFound firstFault grantBroken
+      grant-live cell level link f = to-walks w r p faultless ∙ rw (f .found, eqb·suc-zero (length (f .others)))
 
-          pub grant-broken : NumberFound w (r .number) hit.Broken → GrantPlanned w r (insertion.Refused BrokenLinks)
-          unfolding InsertionPlanned NumberFound firstFault grantBroken
-          grant-broken f = to-walks ∙ rw f
-
-          pub grant-live : (cell level link : ℕ) → NumberFound w (r .number) (hit.At cell level link)
-              → GrantPlanned w r (insertion.Refused AlreadyLive)
-          unfolding InsertionPlanned NumberFound firstFault grantBroken
-          grant-live cell level link f = to-walks ∙ rw (f .found, eqb·suc-zero (length (f .others)))
-
-          module _ (f : NumberFound w (r .number) hit.Absent) where
-            pub absent-line : firstFault (grantLine w r) ≡ firstFault (slotOrder w r)
-            unfolding NumberFound firstFault grantBroken slotOrder
-            absent-line = to-walks ∙ rw (f .unbroken, f .none)
-
-            pub grant-absent : (plan : Insertion) → SlotPlanned w r plan → GrantPlanned w r plan
-            unfolding InsertionPlanned
-            grant-absent (insertion.Refused fault) e = absent-line ∙ e
-            grant-absent (insertion.At link free next) e = record { passes = absent-line ∙ e .passes; way = e .way; slot = e .slot }
-
-  -- the way down, from what the code finds, and the free head
-  pub slot-descent : {g : Grant} {point : List ℕ} {slot found : Slot} → g ≡ requested r → point ≡ pointOf g
-      → insertionWalkOf slot ≡ descend w point → slot ≡ found → insertionWalk w r ≡ insertionWalkOf found
-  slot-descent eg ep e es = ap (λ (g : Grant). descend w (pointOf g)) (sym eg) ∙ ap (descend w) (sym ep) ∙ sym e ∙ ap insertionWalkOf es
-
-  pub slot-broken : insertionWalk w r ≡ insert.broken → SlotPlanned w r (insertion.Refused BrokenLinks)
-  unfolding InsertionPlanned slotOrder firstFault
-  slot-broken e = rw e
-
-  module _ {c link free : ℕ} (sized : Sized w c) (way : insertionWalk w r ≡ blankAt link) (head : free ≡ freeHead w) where
-    capacity-is : capacityOf w ≡ c
-    capacity-is = capacityOf-poolLength w c (sized .long)
-
-    pub free-above : c < free → SlotPlanned w r (insertion.Refused BrokenLinks)
-    unfolding InsertionPlanned slotOrder firstFault freeBroken
-    free-above h = rw (way, capacity-is, ← head, lt-ltb c free h)
-
-    module _ (le : free ≤ c) where
-      pub free-none : free ≡ 0 → SlotPlanned w r (insertion.Refused Full)
-      unfolding InsertionPlanned slotOrder firstFault freeBroken
-      free-none z = rw (way, capacity-is, ← head, le-ltb c free le, eq-eqb free 0 z)
-
-      module _ (nz : ¬ (free ≡ 0)) {next : ℕ} (after : next ≡ nextFree w) where
-        pub free-next-above : c < next → SlotPlanned w r (insertion.Refused BrokenLinks)
-        unfolding InsertionPlanned slotOrder firstFault freeBroken
-        free-next-above h = rw (way, capacity-is, ← after, ← head, le-ltb c free le, ne-eqb free 0 nz, lt-ltb c next h)
-
-        pub free-planned : next ≤ c → SlotPlanned w r (insertion.At link free next)
-        unfolding InsertionPlanned slotOrder firstFault freeBroken descend
-        free-planned h = record {
-          passes = rw (way, capacity-is, ← after, ← head, le-ltb c free le, ne-eqb free 0 nz, le-ltb c next h);
-          way = way;
-          slot =
-              record {
-                cell = cell-inPool sized (omega arith) le;
-                at = descent-within w c (sized .long) _ _ _ _ _ _ (omega (arith, sized .long)) (rw capacity-is at way);
-                head = head;
-                after = after;
-              };
-        }
-
-  -- what the stores need
-  pub plan-inserts : (causes : List Cause) (link free next : ℕ) → InsertionPlanned causes w r (insertion.At link free next)
-      → FreeSlot w link free next
-  unfolding InsertionPlanned
-  plan-inserts causes link free next p = p .slot
+      pub grant-absent : NumberFound w (r .number) hit.Absent → (plan : Insertion) → SlotPlanned w r plan → GrantPlanned w r plan
+      unfolding InsertionPlanned NumberFound
+      grant-absent f (insertion.Refused fault) e = absent-line w r p faultless (f .unbroken) (f .none) ∙ e
+      grant-absent f (insertion.At link free next) e =
+          record { passes = absent-line w r p faultless (f .unbroken) (f .none) ∙ e .passes; way = e .way; slot = e .slot }
 
   pub grant-refused : (fault : Fault) → GrantPlanned w r (insertion.Refused fault)
       → Leaves (outcomeAnswer (outcome.Refused fault)) w (grantCall w r)
@@ -158,19 +92,6 @@ module _ (w : List ℕ) (r : Request) where
       → Leaves (outcomeAnswer outcome.Done) v (grantCall w r)
   unfolding InsertionPlanned grantCall refusing
   grant-done link free next p e = record { answered = rw (p .passes); left = e ∙ rw (p .passes, p .way) }
-
-  -- the same where the number is known to be new
-  pub added-refused : (fault : Fault) → SlotPlanned w r (insertion.Refused fault) → w ≡ added w r
-  unfolding InsertionPlanned added refusing
-  added-refused fault e = rw (added, e)
-
-  pub added-done : (link free next : ℕ) {v : List ℕ} → SlotPlanned w r (insertion.At link free next) → v ≡ inserted w link (requested r) → v ≡ added w r
-  unfolding InsertionPlanned added refusing
-  added-done link free next p e = e ∙ rw (added, p .passes, p .way)
-
-  pub added-grant : firstFault (grantLine w r) ≡ firstFault (slotOrder w r) → grantCall w r .state ≡ added w r
-  unfolding added grantCall refusing
-  added-grant e = rw e
 
 -- revoke's line, as far as its tests have come
 module _ (w : List ℕ) (n : ℕ) where

@@ -1,9 +1,11 @@
 -- How a call that refuses by an order line is judged (specs/Refusal, specs/Judged).
+--   noneOf-iff                  no cause of a line holds exactly if it has no first fault
 --   refusing-judged             a call that refuses by its line, and else is accepted, is judged by that line
 --   judged-same                 lines with the same first fault judge alike
 --   refusing-keeps-state        a call that leaves the state when it is accepted leaves it always
 -- Assumes nothing.
 use Prim.Native.Nat.{ℕ}
+use mathlib.Core.Logic.{_↔_}
 use mathlib.Core.Path.{_≡_, refl, sym, ap, _∙_}
 use mathlib.Core.Bool.{Bool, true, false, cond}
 use mathlib.Core.List.{List, [], _∷_}
@@ -45,6 +47,9 @@ none-noneOf (c ∷ cs) e = go (c .present) refl e (none-noneOf cs)
     go : (b : Bool) → c .present ≡ b → cond b (some (c .fault)) (firstFault cs) ≡ none → (firstFault cs ≡ none → NoneOf cs) → NoneOf (c ∷ cs)
     go true p e rest = absurd (none-some (sym e))
     go false p e rest = none-more p (rest e)
+
+pub noneOf-iff : (cs : List Cause) → NoneOf cs ↔ (firstFault cs ≡ none)
+noneOf-iff cs = (noneOf-none, none-noneOf cs)
 
 module _ {S : Type 0} (cs : List Cause) (s : S) (lent : List ℕ) (done : Step S) where
   pub refusing-judged : (values : List ℕ) → done .answer ≡ accepted values → Judged cs s lent (refusing cs s lent done)

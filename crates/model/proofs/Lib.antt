@@ -7,4 +7,5 @@ pub mod SoundLaws
 pub mod BookLaws
 pub mod AnswerLaws
 pub mod GrantLaws
+pub mod ArgumentLaws
 pub mod JudgedLaws

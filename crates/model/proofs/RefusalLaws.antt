@@ -1,13 +1,14 @@
 -- Laws of `firstFault` (specs/Refusal) over causes in a row.
 --   causes-absent                  where no cause holds, the first does not, and none of the others
 --   firstFault-append              causes of which none holds may be left out in front
+--   firstFault-behind              causes with the same first fault may stand for each other behind others
 --   firstFault-front               what comes after a cause that holds does not matter
 --   append-absent                  where none of two rows of causes holds, none of either does
 --   refusing-front                 the answer of a call whose line has a cause, and then causes of which one holds
 --   accepted-none, accepted-done   a call that is accepted met no cause, and did what an accepted call does
 -- Assumes nothing.
 use Prim.Native.Nat.{ℕ}
-use mathlib.Core.Path.{_≡_, refl}
+use mathlib.Core.Path.{_≡_, refl, ap}
 use mathlib.Core.Bool.{Bool, true, false, cond}
 use mathlib.Core.List.{List, [], _∷_, _++_}
 use mathlib.Core.Option.{Option, none, some}
@@ -29,6 +30,11 @@ pub firstFault-append : (cs ds : List Cause) → firstFault cs ≡ none → firs
 unfolding firstFault
 firstFault-append [] ds e = refl
 firstFault-append (c ∷ cs) ds e = let absent = causes-absent c cs e in rw (absent .0) (firstFault-append cs ds (absent .1))
+
+pub firstFault-behind : (cs ds es : List Cause) → firstFault ds ≡ firstFault es → firstFault (cs ++ ds) ≡ firstFault (cs ++ es)
+unfolding firstFault
+firstFault-behind [] ds es e = e
+firstFault-behind (c ∷ cs) ds es e = ap (cond (c .present) (some (c .fault))) (firstFault-behind cs ds es e)
 
 pub firstFault-front : (cs ds : List Cause) (f : Fault) → firstFault cs ≡ some f → firstFault (cs ++ ds) ≡ some f
 unfolding firstFault

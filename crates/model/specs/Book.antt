@@ -5,7 +5,7 @@
 -- The book never gives 1 or 9. Assumes nothing: these are definitions.
 use Prim.Native.Nat.{ℕ, _-_}
 use mathlib.Core.Bool.{Bool, not}
-use mathlib.Core.List.{List, [], _∷_, map}
+use mathlib.Core.List.{List, [], _∷_, _++_, map}
 use lib.Dec.{ltb, eqb}
 use lib.ListN.{length}
 use Rattle.lists.specs.Tests.{filter, any}
@@ -13,12 +13,12 @@ use Rattle.lists.specs.Overwrite.{overwrite}
 use Rattle.lists.specs.Sort.{insertBy}
 use Rattle.model.specs.declared.Box.{Box}
 use Rattle.model.specs.declared.Grant.{Grant}
-use Rattle.model.specs.declared.Fault.the-variants.{Reversed, ZeroNumber, UnknownKind, AlreadyLive, Full, NotLive, ListTooShort}
+use Rattle.model.specs.declared.Fault.the-variants.{Reversed, ZeroNumber, AlreadyLive, Full, NotLive, ListTooShort}
 use Rattle.model.specs.Box.{pointBox}
 use Rattle.model.specs.Overlap.{overlaps}
 use Rattle.model.specs.Answer.{Answer, accepted, decisionAnswer}
 use Rattle.model.specs.Refusal.{Step, _if_, refusing}
-use Rattle.model.specs.Arguments.{reversedBox, zeroNumber, unknownKind}
+use Rattle.model.specs.Arguments.{reversedBox, zeroNumber, requestCauses}
 use Rattle.model.specs.Decide.{decideAmong}
 use Rattle.model.specs.Call.{Request, requested, Call, grant, revoke, list, decide, count}
 
@@ -42,12 +42,10 @@ overlapping q gs = filter (λ g. overlaps (g .bounds) q) gs
 unfoldable pub bookGrant : Book → Request → Step Book
 bookGrant b r =
     refusing
-    (ZeroNumber if zeroNumber (r .number)
-    ∷ UnknownKind if unknownKind (r .kind)
-    ∷ Reversed if reversedBox (r .bounds)
-    ∷ AlreadyLive if isLive b (r .number)
+    (requestCauses r
+    ++ (AlreadyLive if isLive b (r .number)
     ∷ Full if eqb (length (b .live)) (b .capacity)
-    ∷ [])
+    ∷ []))
     b []
     (record { state = withLive b (insertBy (λ g. g .number) (requested r) (b .live)); answer = accepted []; lent = [] })
 

@@ -1,6 +1,7 @@
 // The types of the interface (document 01, "The plain book", "The grants file" and "Faults").
 // specs/ says what they mean: Fault and Answer give document 01's number and values of each case.
 
+pub mod arguments;
 pub mod bounds;
 pub mod decide;
 pub mod faults;
@@ -50,6 +51,19 @@ pub enum Fault {
     BadChecksum { block: usize },
     BadRecord { block: usize },
     BufferTooShort { needed: usize },
+}
+
+// What can be wrong in the values of a grant that is asked for: faults 3, 4 and 2, in the order in which they answer.
+pub enum RequestFault {
+    ZeroNumber,
+    UnknownKind,
+    Reversed,
+}
+
+// Whether a request for a grant is right, or what is wrong in it first.
+pub enum RequestCheck {
+    Right,
+    Wrong(RequestFault),
 }
 
 // The answer of a call that returns nothing when it is accepted: start, grant, revoke, load, and block read's verdict.

@@ -12,9 +12,9 @@ use lib.Seq.{getD-take, length-take-le}
 use Rattle.lists.specs.Sort.{sortBy}
 use Rattle.model.specs.declared.Grant.{Grant}
 use Rattle.pool.specs.Cell.{grantAt}
-use Rattle.queries.specs.Hits.{CellsAt, grantsAt}
-use Rattle.file_calls.specs.WriteKeys.{numberIn}
-use Rattle.file_calls.proofs.SortedCellLaws.{grants-sorted}
+use Rattle.steps.specs.Hits.{CellsAt, grantsAt}
+use Rattle.steps.specs.SortKeys.{numberIn}
+use Rattle.steps.proofs.SortedCellLaws.{grants-sorted}
 use Rattle.precedence.specs.declared.Precedence.{Precedence}
 use Rattle.precedence.specs.Precedence.{precedence}
 use Rattle.panel.specs.declared.touching.Touching.{Touching}

@@ -14,11 +14,11 @@ use Rattle.geometry.specs.Region.{Region}
 use Rattle.geometry.specs.SearchRange.{rangeOfBox}
 use Rattle.pool.specs.Capacity.{poolCapacity}
 use Rattle.pool.specs.Cell.{grantAt}
-use Rattle.queries.specs.declared.hits.Hits.{Hits}
-use Rattle.queries.specs.declared.hits.Hits.the-variants.{Broken, Found}
-use Rattle.queries.specs.Hits.{HitsFound, grantsAt}
+use Rattle.steps.specs.declared.hits.Hits.{Hits}
+use Rattle.steps.specs.declared.hits.Hits.the-variants.{Broken, Found}
+use Rattle.steps.specs.Hits.{HitsFound, grantsAt}
 use Rattle.calls.specs.Order.{lookOrder}
-use Rattle.queries.proofs.HitsLaws.{broken-search, found-hits}
+use Rattle.steps.proofs.HitsLaws.{broken-search, found-hits}
 use Rattle.calls.proofs.RefusalSteps.{pool-refused, pool-taken}
 use Rattle.panel.specs.declared.touching.Touching.{Touching}
 use Rattle.panel.specs.declared.touching.Touching.the-variants.{Refused}

@@ -2,10 +2,9 @@
 // among them (specs/Touching). Refuses by 1, then 9, as decide does. Searches afresh for each, so that nothing is kept between two rows.
 ghost use mathlib.Core.Path.{_≡_};
 ghost use Rattle.lists.specs.Sort.{sortBy};
-ghost use Rattle.queries.specs.Hits.{CellsAt, grantsAt};
+ghost use Rattle.steps.specs.Hits.{CellsAt, grantsAt};
 ghost use Rattle.panel.specs.Touching.{doorBox, placed, touchingAt};
 use adt::search::HitCells;
-use file_calls::sorted_cells::sort_cells;
 use geometry::axis::TOP;
 use geometry::range::range_of_box;
 use model::Box;
@@ -17,8 +16,9 @@ use pool::layout::capacity;
 use pool::layout::wide;
 use precedence::Precedence;
 use precedence::overriding::precedence_among;
-use queries::hits::Hits;
-use queries::hits::find_hits;
+use steps::hits::Hits;
+use steps::hits::find_hits;
+use steps::sorted_cells::sort_cells;
 
 pub enum Touching {
     Is {

@@ -13,8 +13,8 @@ use lib.Seq.{drop-cons, drop-length, getD-take, length-take-le}
 use Rattle.lists.specs.Tests.{any}
 use Rattle.model.specs.declared.Grant.{Grant}
 use Rattle.pool.specs.Cell.{grantAt}
-use Rattle.queries.specs.Hits.{CellsAt}
-use Rattle.queries.proofs.DecideLaws.{grantsFrom}
+use Rattle.steps.specs.Hits.{CellsAt}
+use Rattle.steps.proofs.HitsLaws.{grantsFrom}
 use Rattle.precedence.specs.PrecedenceWalk.{further, reach}
 
 module _ (w hits : List ℕ) {n : ℕ} (cells : CellsAt w hits n) where

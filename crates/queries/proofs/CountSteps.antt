@@ -12,12 +12,12 @@ use Rattle.model.specs.Answer.{accepted, refusal}
 use Rattle.geometry.specs.Region.{Region}
 use Rattle.geometry.specs.SearchRange.{rangeOfAll}
 use Rattle.pool.specs.Capacity.{poolCapacity}
-use Rattle.queries.specs.declared.hits.Hits.{Hits}
-use Rattle.queries.specs.declared.hits.Hits.the-variants.{Broken, Found}
+use Rattle.steps.specs.declared.hits.Hits.{Hits}
+use Rattle.steps.specs.declared.hits.Hits.the-variants.{Broken, Found}
 use Rattle.calls.specs.Walks.{fullSearch, hitsOf}
-use Rattle.queries.specs.Hits.{HitsFound}
+use Rattle.steps.specs.Hits.{HitsFound}
 use Rattle.calls.specs.Calls.{countCall}
-use Rattle.queries.proofs.HitsLaws.{found-hits, length-hits}
+use Rattle.steps.proofs.HitsLaws.{found-hits, length-hits}
 use Rattle.calls.proofs.RefusalSteps.{pool-taken}
 use Rattle.queries.proofs.LookSteps.{look-bad, look-broken, look-done}
 

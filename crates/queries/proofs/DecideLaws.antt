@@ -1,5 +1,4 @@
 -- One pass over the hits finds the grant that decides.
---   grantsFrom w hits n i       the grants in the cells of the hits from the i-th to the last of n
 --   decides-none                nothing is hit
 --   decides-over, decides-under the next grant outranks the one that decides so far, or not
 --   decides-end                 all have been passed
@@ -16,10 +15,8 @@ use Rattle.model.specs.declared.Grant.{Grant}
 use Rattle.model.specs.declared.Decision.the-variants as decision
 use Rattle.model.specs.Decide.{outranks, decidingOf, decisionOf, decideAmong}
 use Rattle.pool.specs.Cell.{grantAt}
-use Rattle.queries.specs.Hits.{CellsAt, grantsAt}
-
-abbrev pub grantsFrom : List ℕ → List ℕ → ℕ → ℕ → List Grant
-grantsFrom w hits n i = map (grantAt w) (drop i (take n hits))
+use Rattle.steps.specs.Hits.{CellsAt, grantsAt}
+use Rattle.steps.proofs.HitsLaws.{grantsFrom}
 
 decidingOf-next : (g h : Grant) (hs : List Grant) {b : Bool} → outranks h g ≡ b → decidingOf g (h ∷ hs) ≡ decidingOf (cond b h g) hs
 unfolding decidingOf

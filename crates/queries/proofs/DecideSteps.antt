@@ -14,11 +14,11 @@ use Rattle.geometry.specs.Region.{Region}
 use Rattle.geometry.specs.SearchRange.{rangeOfBox}
 use Rattle.pool.specs.Capacity.{poolCapacity}
 use Rattle.pool.specs.Cell.{grantAt}
-use Rattle.queries.specs.declared.hits.Hits.{Hits}
-use Rattle.queries.specs.declared.hits.Hits.the-variants.{Broken, Found}
-use Rattle.queries.specs.Hits.{HitsFound, grantsAt}
+use Rattle.steps.specs.declared.hits.Hits.{Hits}
+use Rattle.steps.specs.declared.hits.Hits.the-variants.{Broken, Found}
+use Rattle.steps.specs.Hits.{HitsFound, grantsAt}
 use Rattle.calls.specs.Calls.{decideCall}
-use Rattle.queries.proofs.HitsLaws.{found-hits}
+use Rattle.steps.proofs.HitsLaws.{found-hits}
 use Rattle.queries.proofs.LookSteps.{look-bad, look-broken, look-done}
 
 module _ (w : List ℕ) (staff door quarter : ℕ) {c : ℕ} (e : c ≡ poolCapacity w) where

@@ -1,5 +1,4 @@
 -- Laws of the queries' steps, for the crates above.
-pub mod HitsLaws
 pub mod LookSteps
 pub mod CountSteps
 pub mod NumberLaws

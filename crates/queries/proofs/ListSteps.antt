@@ -22,14 +22,14 @@ use Rattle.geometry.specs.Region.{Region}
 use Rattle.geometry.specs.SearchRange.{rangeOfBox}
 use Rattle.pool.specs.Capacity.{wrongPool, poolCapacity}
 use Rattle.adt.specs.Search.{Search}
-use Rattle.queries.specs.declared.hits.Hits.{Hits}
-use Rattle.queries.specs.declared.hits.Hits.the-variants.{Broken, Found}
+use Rattle.steps.specs.declared.hits.Hits.{Hits}
+use Rattle.steps.specs.declared.hits.Hits.the-variants.{Broken, Found}
 use Rattle.calls.specs.Walks.{boxSearch, hitsOf, isBroken}
-use Rattle.queries.specs.Hits.{numbersAt, HitsAt, HitsFound}
+use Rattle.steps.specs.Hits.{numbersAt, HitsAt, HitsFound}
 use Rattle.calls.specs.Order.{listOrder}
 use Rattle.calls.specs.Calls.{listCall}
 use Rattle.calls.specs.Contract.{Lends}
-use Rattle.queries.proofs.HitsLaws.{broken-search, found-hits, length-hits}
+use Rattle.steps.proofs.HitsLaws.{broken-search, found-hits, length-hits}
 use Rattle.queries.proofs.NumberLaws.{length-numbersAt}
 use Rattle.calls.proofs.RefusalSteps.{refusedBy, first-holds, first-fails, none-left, lends-as, pool-refused, pool-taken}
 

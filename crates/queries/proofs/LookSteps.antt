@@ -10,12 +10,12 @@ use Rattle.model.specs.Refusal.{Step, refusing}
 use Rattle.geometry.specs.Region.{Region}
 use Rattle.pool.specs.Capacity.{poolCapacity}
 use Rattle.adt.specs.Search.{search}
-use Rattle.queries.specs.declared.hits.Hits.{Hits}
-use Rattle.queries.specs.declared.hits.Hits.the-variants.{Broken, Found}
+use Rattle.steps.specs.declared.hits.Hits.{Hits}
+use Rattle.steps.specs.declared.hits.Hits.the-variants.{Broken, Found}
 use Rattle.calls.specs.Walks.{isBroken}
-use Rattle.queries.specs.Hits.{HitsFound}
+use Rattle.steps.specs.Hits.{HitsFound}
 use Rattle.calls.specs.Order.{lookOrder}
-use Rattle.queries.proofs.HitsLaws.{broken-search, found-hits}
+use Rattle.steps.proofs.HitsLaws.{broken-search, found-hits}
 use Rattle.calls.proofs.RefusalSteps.{first-holds, first-fails, none-left, leaves-as, pool-refused, pool-taken}
 
 -- a call that searches for the range q, and gives `done` where it is not refused

@@ -13,7 +13,7 @@ use lib.Seq.{take-suc, take-suc-set, take-all}
 use Rattle.pool.specs.declared.Field.the-variants.{Number}
 use Rattle.pool.specs.Layout.{fieldOf}
 use Rattle.pool.specs.Cell.{grantAt}
-use Rattle.queries.specs.Hits.{numbersAt}
+use Rattle.steps.specs.Hits.{numbersAt}
 
 pub length-numbersAt : (w ks : List ℕ) → length (numbersAt w ks) ≡ length ks
 length-numbersAt w ks = simp length-map

@@ -2,13 +2,13 @@
 ghost use mathlib.Core.Path.{_≡_};
 ghost use Rattle.model.specs.Answer.{countedAnswer};
 ghost use Rattle.calls.specs.Calls.{countCall};
-use crate::hits::Hits;
-use crate::hits::find_hits;
 use geometry::region::root_region;
 use model::Counted;
 use model::Fault;
 use pool::layout::MAX_CAPACITY;
 use pool::layout::capacity;
+use steps::hits::Hits;
+use steps::hits::find_hits;
 
 pub fn count(pool: &[u16]) -> Counted
     ensures { λ r. ⌜ countedAnswer r ≡ countCall (now (pool .entry)) .answer ⌝ }

@@ -2,10 +2,8 @@
 ghost use mathlib.Core.Path.{_≡_};
 ghost use Rattle.model.specs.Answer.{decisionAnswer};
 ghost use Rattle.model.specs.Decide.{decideAmong};
-ghost use Rattle.queries.specs.Hits.{CellsAt, grantsAt};
+ghost use Rattle.steps.specs.Hits.{CellsAt, grantsAt};
 ghost use Rattle.calls.specs.Calls.{decideCall};
-use crate::hits::Hits;
-use crate::hits::find_hits;
 use adt::search::HitCells;
 use geometry::range::range_of_box;
 use model::Decision;
@@ -17,6 +15,8 @@ use pool::cell::grant_at;
 use pool::layout::MAX_CAPACITY;
 use pool::layout::capacity;
 use pool::layout::wide;
+use steps::hits::Hits;
+use steps::hits::find_hits;
 
 // What the grants in the first cells of the hits decide, in one pass: a later one takes the place only of one that it outranks.
 fn decide_among(pool: &[u16], hits: &HitCells, found: usize) -> Decision

@@ -3,5 +3,4 @@
 // What each answers and leaves is its definition in calls/specs/Calls.
 pub mod count;
 pub mod decide;
-pub mod hits;
 pub mod list;

@@ -4,11 +4,9 @@ ghost use mathlib.Core.Path.{_≡_};
 ghost use lib.ListN.{length, take};
 ghost use Rattle.lists.specs.Sort.{sortBy};
 ghost use Rattle.model.specs.Answer.{listedAnswer};
-ghost use Rattle.queries.specs.Hits.{CellsAt, numbersAt};
+ghost use Rattle.steps.specs.Hits.{CellsAt, numbersAt};
 ghost use Rattle.calls.specs.Calls.{listCall};
 ghost use Rattle.calls.specs.Contract.{Lends};
-use crate::hits::Hits;
-use crate::hits::find_hits;
 use adt::search::HitCells;
 use geometry::range::range_of_box;
 use model::Box;
@@ -21,6 +19,8 @@ use pool::layout::capacity;
 use pool::layout::field;
 use pool::layout::wide;
 use sorting::sort_numbers;
+use steps::hits::Hits;
+use steps::hits::find_hits;
 
 // Fills the list with the numbers in the hits' cells, in their order.
 fn copy_numbers(pool: &[u16], hits: &HitCells, list: &mut [u16])

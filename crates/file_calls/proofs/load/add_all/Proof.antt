@@ -4,7 +4,7 @@ use mathlib.Core.Path.{_≡_, refl, sym, _∙_}
 use native.Mathlib.Omega.{arith}
 use lib.ListN.{length, drop}
 use Rattle.grants_file.specs.File.{grantsIn}
-use Rattle.index.specs.Plans.{addedAll}
+use Rattle.steps.specs.Insertions.{addedAll}
 use Rattle.file_calls.proofs.LoadSteps.{added-more, added-all}
 use borrow.Author.Needs.{needs}
 use Rattle.file_calls.proofs.load.add_all.Statement.{statement}

@@ -5,7 +5,7 @@ use native.Mathlib.Omega.{arith}
 use mathlib.Core.List.{List}
 use Rattle.grants_file.specs.File.{grantsIn}
 use Rattle.grants_file.proofs.GrantSteps.{accepted-whole}
-use Rattle.index.specs.Plans.{addedAll}
+use Rattle.steps.specs.Insertions.{addedAll}
 use Rattle.calls.proofs.RefusalSteps.{length-taken}
 use Rattle.file_calls.proofs.LoadSteps.{load-accepted, load-bad, load-file, load-full, load-done}
 use borrow.Author.Needs.{needs}

@@ -7,8 +7,8 @@ use Rattle.grants_file.specs.File.{totalIn, grantsIn}
 use Rattle.grants_file.proofs.FileLaws.{length-grantsIn}
 use Rattle.grants_file.proofs.GrantSteps.{accepted-whole}
 use Rattle.calls.specs.FileCalls.{firstDifference}
-use Rattle.queries.specs.Hits.{grantsAt}
-use Rattle.queries.proofs.HitsLaws.{cell-hit}
+use Rattle.steps.specs.Hits.{grantsAt}
+use Rattle.steps.proofs.HitsLaws.{cell-hit}
 use Rattle.file_calls.proofs.DifferenceLaws.{length-ours, ours-here, both-end, theirs-left, ours-left, unequal-here, equal-here}
 use borrow.Author.Needs.{needs}
 use borrow.Author.Tests.{not-true, not-false}

@@ -2,7 +2,7 @@
 use mathlib.Core.Path.{refl, sym, subst, _∙_}
 use native.Mathlib.Omega.{arith}
 use Rattle.grants_file.proofs.GrantSteps.{accepted-whole}
-use Rattle.queries.proofs.HitsLaws.{found-hits}
+use Rattle.steps.proofs.HitsLaws.{found-hits}
 use Rattle.calls.proofs.RefusalSteps.{pool-taken}
 use Rattle.file_calls.proofs.MatchSteps.{file-taken, match-bad, match-file, match-broken, match-done}
 use Rattle.geometry.specs.SearchRange.{OneSided}

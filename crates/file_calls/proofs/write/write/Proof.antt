@@ -3,7 +3,7 @@ use Prim.Native.Nat.{ℕ, _*_}
 use mathlib.Core.Path.{refl, sym, ap, subst}
 use native.Mathlib.Omega.{arith}
 use Rattle.calls.proofs.RefusalSteps.{pool-taken}
-use Rattle.queries.proofs.HitsLaws.{found-hits}
+use Rattle.steps.proofs.HitsLaws.{found-hits}
 use Rattle.file_calls.proofs.WriteSteps.{write-bad, write-reversed, write-broken, write-short, write-done}
 use Rattle.geometry.specs.SearchRange.{OneSided}
 use Rattle.geometry.proofs.SearchRangeLaws.{doors-one-sided}

@@ -7,7 +7,7 @@ use lib.ListN.{length}
 use lib.Seq.{sets}
 use Rattle.grants_file.specs.Layout.{blockBytes, recordsPlace}
 use Rattle.grants_file.specs.Record.{encodeRecord}
-use Rattle.queries.proofs.HitsLaws.{cell-hit}
+use Rattle.steps.proofs.HitsLaws.{cell-hit}
 use Rattle.file_calls.proofs.WriteFileLaws.{grantsFrom, records-none, records-more}
 use borrow.Author.Needs.{needs}
 use Rattle.file_calls.proofs.write_file.write_records.Statement.{statement}

@@ -1,6 +1,7 @@
 -- `block_read::block_part` meets its contract. An accepted block is in the file and has at most 31 records. Assumes nothing.
-use mathlib.Core.Path.{_∙_}
-use Rattle.grants_file.proofs.BlockReadSteps.{done-in, done-count, part-refused, part-header, part-records}
+use mathlib.Core.Path.{refl, sym}
+use Rattle.grants_file.proofs.BlockReadSteps.{done-in, done-count, occupies-as, part-refused, part-header, part-records}
+use native.Mathlib.Omega.{arith}
 use borrow.Author.Needs.{needs}
 use Rattle.grants_file.proofs.block_read.block_part.Statement.{statement}
 use Rattle.grants_file.proofs.block_read.block_part.Tie as tie
@@ -24,7 +25,11 @@ part-result-end : tie.Need-part-result-end
 part-result-end c = search needs
 
 returns : tie.Need-returns
-returns c = part-refused _ _ (c .before .enum-told2 .given .0 .0) (rw (c .before .enum-told2 .given .1) at (c .before .before .before .block-verdict .ensures))
+returns c =
+    let told = c .before in
+    let answer = rw (told .enum-told2 .given .1) at (told .before .before .block-verdict .ensures) in
+    occupies-as (sym (part-refused _ _ (told .enum-told2 .given .0 .0) answer))
+    (record { memory = refl; place = omega arith; long = refl; bytes = refl })
 
 sub-result-2 : tie.Need-sub-result-2
 sub-result-2 c = search needs
@@ -37,7 +42,10 @@ part-result-end-2 c = search needs
 
 returns-2 : tie.Need-returns-2
 returns-2 c =
-    part-header _ _ (rw (c .before .before .enum-told .given .1) at (c .before .before .before .before .block-verdict .ensures)) (c .before .if1 .taken)
+    let told = c .before .before in
+    let answer = rw (told .enum-told .given .1) at (told .before .before .block-verdict .ensures) in
+    occupies-as (sym (part-header _ _ answer (c .before .if1 .taken)))
+    (record { memory = refl; place = omega arith; long = refl; bytes = refl })
 
 records-part-requires : tie.Need-records-part-requires
 records-part-requires c κs = let done = rw (c .before .enum-told .given .1) at (c .before .before .before .block-verdict .ensures) in
@@ -45,8 +53,9 @@ records-part-requires c κs = let done = rw (c .before .enum-told .given .1) at 
 
 returns-3 : tie.Need-returns-3
 returns-3 c =
-    c .records-part .ensures
-    ∙ part-records _ _ (rw (c .before .before .enum-told .given .1) at (c .before .before .before .before .block-verdict .ensures)) (c .before .if1 .left)
+    let told = c .before .before in
+    let answer = rw (told .enum-told .given .1) at (told .before .before .block-verdict .ensures) in
+    occupies-as (sym (part-records _ _ answer (c .before .if1 .left))) (c .records-part .ensures)
 
 pub block-part-spec : {M : Type 1} → statement M
 block-part-spec =

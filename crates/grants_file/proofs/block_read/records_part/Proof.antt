@@ -1,4 +1,7 @@
 -- `block_read::records_part` meets its contract. Assumes nothing.
+use mathlib.Core.Path.{refl, ap, _∙_}
+use Rattle.grants_file.specs.Block.{countOf}
+use Rattle.grants_file.proofs.BlockReadSteps.{occupies}
 use native.Mathlib.Nat.{add-sub-cancel-left}
 use native.Mathlib.Omega.{arith}
 use borrow.Author.Needs.{needs}
@@ -35,7 +38,9 @@ part-result-end c =
     omega arith
 
 returns : tie.Need-returns
-returns c = rw (add-sub-cancel-left, c .before .count-of .ensures .0, c .before .before .block-at .ensures .0)
+returns c =
+    let counted = c .before .count-of .ensures .0 ∙ ap countOf (c .before .before .block-at .ensures .0) in
+    occupies refl (omega arith) (rw (add-sub-cancel-left, counted)) (omega arith)
 
 pub records-part-spec : {M : Type 1} → statement M
 records-part-spec =

@@ -1,5 +1,6 @@
 -- `grant::grant` meets its contract: it refuses, or stores what was planned. Assumes nothing.
-use Rattle.index.proofs.PlanLaws.{grant-refused, grant-done, plan-inserts}
+use Rattle.steps.proofs.InsertionLaws.{plan-inserts}
+use Rattle.index.proofs.PlanLaws.{grant-refused, grant-done}
 use Rattle.model.specs.Call.{request}
 use Rattle.index.specs.Plans.{GrantPlanned}
 use Rattle.adt.specs.Insert.{inserted}

@@ -1,9 +1,9 @@
 -- `grant::plan_insertion` meets its contract, in the order of grant's line. Assumes nothing.
+use mathlib.Core.Path.{subst}
 use Rattle.model.specs.Call.{request}
 use Rattle.calls.proofs.RefusalSteps.{pool-refused, pool-taken}
-use Rattle.index.proofs.PlanLaws.{grant-pool, grant-zero, grant-kind, grant-reversed, grant-broken, grant-live, grant-absent}
 use Rattle.index.specs.NumberSearch.{NumberFound}
-use mathlib.Core.Path.{sym, subst, _∙_}
+use Rattle.index.proofs.PlanLaws.{grant-pool, grant-wrong, grant-broken, grant-live, grant-absent}
 use borrow.Author.Needs.{needs}
 use Rattle.index.proofs.grant.plan_insertion.Statement.{statement}
 use Rattle.index.proofs.grant.plan_insertion.Tie as tie
@@ -17,44 +17,33 @@ returns c =
     let r = request (a .number) (a .rank) (a .kind) (a .bounds) in
     grant-pool (a .pool .now) r (pool-refused _ (c .before .capacity .ensures) (c .if1 .taken))
 
+check-request-requires : tie.Need-check-request-requires
+check-request-requires c κs = search needs
+
+enum-known-check : tie.Need-enum-known-check
+enum-known-check c = search needs
+
+fault-of-requires : tie.Need-fault-of-requires
+fault-of-requires c κs = search needs
+
 returns-2 : tie.Need-returns-2
 returns-2 c =
-    let one = c .before in
+    let told = c .before .before in
+    let checked = told .before .before in
+    let one = checked .before in
     let a = one .before .before .before .args in
     let r = request (a .number) (a .rank) (a .kind) (a .bounds) in
     let t = pool-taken (a .pool .now) (one .before .capacity .ensures) (one .if1 .left) in
-    grant-zero (a .pool .now) r (t .right) (c .if2 .taken)
-
-returns-3 : tie.Need-returns-3
-returns-3 c =
-    let two = c .before in
-    let one = two .before in
-    let a = one .before .before .before .args in
-    let r = request (a .number) (a .rank) (a .kind) (a .bounds) in
-    let t = pool-taken (a .pool .now) (one .before .capacity .ensures) (one .if1 .left) in
-    grant-kind (a .pool .now) r (t .right) (two .if2 .left) (c .if3 .taken)
-
-is-reversed-requires : tie.Need-is-reversed-requires
-is-reversed-requires c κs = search needs
-
-returns-4 : tie.Need-returns-4
-returns-4 c =
-    let three = c .before .before in
-    let two = three .before in
-    let one = two .before in
-    let a = one .before .before .before .args in
-    let r = request (a .number) (a .rank) (a .kind) (a .bounds) in
-    let t = pool-taken (a .pool .now) (one .before .capacity .ensures) (one .if1 .left) in
-    grant-reversed (a .pool .now) r (t .right) (two .if2 .left) (three .if3 .left) (sym (c .before .is-reversed .ensures) ∙ c .if4 .taken)
-
-find-number-requires : tie.Need-find-number-requires
-find-number-requires c κs =
-    let one = c .before .before .before .before in
-    let a = one .before .before .before .args in
-    pool-taken (a .pool .now) (one .before .capacity .ensures) (one .if1 .left) .sized
+    grant-wrong (a .pool .now) r (t .right) (checked .check-request .ensures) (told .check .given .1) (c .fault-of .ensures)
 
 enum-told : tie.Need-enum-told
 enum-told c = search needs
+
+find-number-requires : tie.Need-find-number-requires
+find-number-requires c κs =
+    let one = c .before .before .before in
+    let a = one .before .before .before .args in
+    pool-taken (a .pool .now) (one .before .capacity .ensures) (one .if1 .left) .sized
 
 enum-told-2 : tie.Need-enum-told-2
 enum-told-2 c = search needs
@@ -62,53 +51,50 @@ enum-told-2 c = search needs
 enum-told-3 : tie.Need-enum-told-3
 enum-told-3 c = search needs
 
+enum-told-4 : tie.Need-enum-told-4
+enum-told-4 c = search needs
+
 plan-slot-requires : tie.Need-plan-slot-requires
 plan-slot-requires c κs =
-    let one = c .before .before .before .before .before .before .before in
+    let one = c .before .before .before .before .before .before in
     let a = one .before .before .before .args in
     pool-taken (a .pool .now) (one .before .capacity .ensures) (one .if1 .left) .sized
 
+returns-3 : tie.Need-returns-3
+returns-3 c =
+    let found = c .before .before in
+    let told = found .before in
+    let checked = told .before .before in
+    let one = checked .before in
+    let a = one .before .before .before .args in
+    let r = request (a .number) (a .rank) (a .kind) (a .bounds) in
+    let t = pool-taken (a .pool .now) (one .before .capacity .ensures) (one .if1 .left) in
+    let number = subst (NumberFound (a .pool .now) (a .number)) (c .enum-told2 .given .1) (found .find-number .ensures) in
+    grant-broken (a .pool .now) r (t .right) (checked .check-request .ensures) (told .enum-told .given .1) number
+
+returns-4 : tie.Need-returns-4
+returns-4 c =
+    let found = c .before .before in
+    let told = found .before in
+    let checked = told .before .before in
+    let one = checked .before in
+    let a = one .before .before .before .args in
+    let r = request (a .number) (a .rank) (a .kind) (a .bounds) in
+    let t = pool-taken (a .pool .now) (one .before .capacity .ensures) (one .if1 .left) in
+    let number = subst (NumberFound (a .pool .now) (a .number)) (c .enum-told3 .given .1) (found .find-number .ensures) in
+    grant-live (a .pool .now) r (t .right) (checked .check-request .ensures) (told .enum-told .given .1) _ _ _ number
+
 returns-5 : tie.Need-returns-5
 returns-5 c =
-    let found = c .before .before in
-    let four = found .before in
-    let three = four .before .before in
-    let two = three .before in
-    let one = two .before in
-    let a = one .before .before .before .args in
-    let r = request (a .number) (a .rank) (a .kind) (a .bounds) in
-    let t = pool-taken (a .pool .now) (one .before .capacity .ensures) (one .if1 .left) in
-    let reversed = sym (four .before .is-reversed .ensures) ∙ four .if4 .left in
-    let number = subst (NumberFound (a .pool .now) (a .number)) (c .enum-told .given .1) (found .find-number .ensures) in
-    grant-broken (a .pool .now) r (t .right) (two .if2 .left) (three .if3 .left) reversed number
-
-returns-6 : tie.Need-returns-6
-returns-6 c =
-    let found = c .before .before in
-    let four = found .before in
-    let three = four .before .before in
-    let two = three .before in
-    let one = two .before in
-    let a = one .before .before .before .args in
-    let r = request (a .number) (a .rank) (a .kind) (a .bounds) in
-    let t = pool-taken (a .pool .now) (one .before .capacity .ensures) (one .if1 .left) in
-    let reversed = sym (four .before .is-reversed .ensures) ∙ four .if4 .left in
-    let number = subst (NumberFound (a .pool .now) (a .number)) (c .enum-told2 .given .1) (found .find-number .ensures) in
-    grant-live (a .pool .now) r (t .right) (two .if2 .left) (three .if3 .left) reversed _ _ _ number
-
-returns-7 : tie.Need-returns-7
-returns-7 c =
     let found = c .before .before .before in
-    let four = found .before in
-    let three = four .before .before in
-    let two = three .before in
-    let one = two .before in
+    let told = found .before in
+    let checked = told .before .before in
+    let one = checked .before in
     let a = one .before .before .before .args in
     let r = request (a .number) (a .rank) (a .kind) (a .bounds) in
     let t = pool-taken (a .pool .now) (one .before .capacity .ensures) (one .if1 .left) in
-    let reversed = sym (four .before .is-reversed .ensures) ∙ four .if4 .left in
-    let number = subst (NumberFound (a .pool .now) (a .number)) (c .before .enum-told3 .given .1) (found .find-number .ensures) in
-    grant-absent (a .pool .now) r (t .right) (two .if2 .left) (three .if3 .left) reversed number _ (c .plan-slot .ensures)
+    let number = subst (NumberFound (a .pool .now) (a .number)) (c .before .enum-told4 .given .1) (found .find-number .ensures) in
+    grant-absent (a .pool .now) r (t .right) (checked .check-request .ensures) (told .enum-told .given .1) number _ (c .plan-slot .ensures)
 
 pub plan-insertion-spec : {M : Type 1} → statement M
 plan-insertion-spec =
@@ -116,15 +102,16 @@ plan-insertion-spec =
     (tie.spec
     capacity-requires
     returns
+    check-request-requires
+    enum-known-check
+    fault-of-requires
     returns-2
-    returns-3
-    is-reversed-requires
-    returns-4
-    find-number-requires
     enum-told
+    find-number-requires
     enum-told-2
     enum-told-3
+    enum-told-4
     plan-slot-requires
-    returns-5
-    returns-6
-    returns-7)
+    returns-3
+    returns-4
+    returns-5)

@@ -1,5 +1,5 @@
 -- `touching::placed` meets its contract. Assumes nothing.
-use Rattle.queries.proofs.HitsLaws.{cell-hit}
+use Rattle.steps.proofs.HitsLaws.{cell-hit}
 use Rattle.panel.proofs.PlacedLaws.{placed-end, placed-at}
 use borrow.Author.Needs.{needs}
 use Rattle.panel.proofs.touching.placed.Statement.{statement}

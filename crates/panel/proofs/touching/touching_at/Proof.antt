@@ -3,7 +3,7 @@ use mathlib.Core.Path.{refl, sym, subst}
 use Rattle.geometry.specs.SearchRange.{OneSided}
 use Rattle.geometry.proofs.SearchRangeLaws.{box-one-sided}
 use Rattle.calls.proofs.RefusalSteps.{pool-taken}
-use Rattle.queries.proofs.HitsLaws.{found-hits}
+use Rattle.steps.proofs.HitsLaws.{found-hits}
 use Rattle.panel.proofs.TouchingSteps.{touching-bad, touching-broken, touching-done}
 use borrow.Author.Needs.{needs}
 use Rattle.panel.proofs.touching.touching_at.Statement.{statement}

@@ -5,8 +5,7 @@ use mathlib.Core.Path.{_≡_, refl, sym, _∙_}
 use native.Mathlib.Omega.{arith}
 use borrow.Author.Needs.{needs}
 use Rattle.lists.specs.Tests.{any}
-use Rattle.queries.proofs.HitsLaws.{cell-hit}
-use Rattle.queries.proofs.DecideLaws.{grantsFrom}
+use Rattle.steps.proofs.HitsLaws.{cell-hit, grantsFrom}
 use Rattle.precedence.specs.PrecedenceWalk.{overridesSome}
 use Rattle.precedence.proofs.HitScanLaws.{any-found, any-passed, any-none}
 use Rattle.precedence.proofs.overriding.overridden_some.Statement.{statement}

@@ -5,7 +5,7 @@ use mathlib.Core.Path.{sym, _∙_}
 use native.Mathlib.Omega.{arith}
 use borrow.Author.Needs.{needs}
 use borrow.Author.Tests.{not-true, not-false}
-use Rattle.queries.proofs.DecideLaws.{grantsFrom}
+use Rattle.steps.proofs.HitsLaws.{grantsFrom}
 use Rattle.precedence.proofs.PrecedenceWalkLaws.{Passed, passed-none, passed-reach, walk-whole, walk-partly, walk-nowhere}
 use Rattle.precedence.proofs.overriding.precedence_among.Statement.{statement}
 use Rattle.precedence.proofs.overriding.precedence_among.Tie as tie

@@ -4,8 +4,7 @@ use Prim.Native.Nat.{_-_, _≤_}
 use mathlib.Core.Path.{_≡_, refl}
 use native.Mathlib.Omega.{arith}
 use borrow.Author.Needs.{needs}
-use Rattle.queries.proofs.HitsLaws.{cell-hit}
-use Rattle.queries.proofs.DecideLaws.{grantsFrom}
+use Rattle.steps.proofs.HitsLaws.{cell-hit, grantsFrom}
 use Rattle.precedence.specs.PrecedenceWalk.{reach}
 use Rattle.precedence.proofs.HitScanLaws.{reach-passed, reach-end}
 use Rattle.precedence.proofs.overriding.reach.Statement.{statement}

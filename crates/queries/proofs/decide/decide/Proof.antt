@@ -1,6 +1,6 @@
 -- `decide::decide` meets its contract, test by test. Assumes nothing.
 use Rattle.calls.proofs.RefusalSteps.{pool-taken}
-use Rattle.queries.proofs.HitsLaws.{found-hits}
+use Rattle.steps.proofs.HitsLaws.{found-hits}
 use Rattle.queries.proofs.DecideSteps.{decide-bad, decide-broken, decide-done}
 use mathlib.Core.Path.{refl, sym, subst}
 use Rattle.geometry.specs.SearchRange.{OneSided}

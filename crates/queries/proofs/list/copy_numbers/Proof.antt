@@ -3,8 +3,8 @@ use Prim.Native.Nat.{_-_, _≤_}
 use mathlib.Core.Path.{_≡_, refl}
 use native.Mathlib.Omega.{arith}
 use lib.ListN.{length, take, length-set}
-use Rattle.queries.specs.Hits.{numbersAt}
-use Rattle.queries.proofs.HitsLaws.{cell-hit}
+use Rattle.steps.specs.Hits.{numbersAt}
+use Rattle.steps.proofs.HitsLaws.{cell-hit}
 use Rattle.queries.proofs.NumberLaws.{numbers-more, numbers-all}
 use borrow.Author.Needs.{needs}
 use Rattle.queries.proofs.list.copy_numbers.Statement.{statement}

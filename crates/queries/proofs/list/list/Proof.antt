@@ -1,6 +1,6 @@
 -- `list::list` meets its contract, test by test. Assumes nothing.
 use Rattle.calls.proofs.RefusalSteps.{pool-taken}
-use Rattle.queries.proofs.HitsLaws.{found-hits, cells-part}
+use Rattle.steps.proofs.HitsLaws.{found-hits, cells-part}
 use Rattle.queries.proofs.ListSteps.{list-bad, list-reversed, list-broken, list-short, list-done}
 use mathlib.Core.Path.{refl, sym, subst}
 use lib.Seq.{length-take-le}

@@ -1,2 +1,0 @@
--- What a search leaves for the queries, in memory that the caller lends.
-pub mod Hits

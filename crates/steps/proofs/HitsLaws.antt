@@ -1,0 +1,79 @@
+-- What the memory of a search says to the calls (specs/Hits).
+--   hits-broken, hits-found             the search was broken; its hits lie at the start of the list
+--   broken-search, found-hits           the same read back from the answer
+--   length-hits                         how many were hit
+--   cell-hit                            a hit is a cell that can be read
+--   grantsFrom w hits n i               the grants in the cells of the hits from the i-th to the last of n
+--   cells-part                          the hits fill a part of a list that is long enough
+-- Assumes nothing.
+use Prim.Native.Nat.{ℕ, _<_, _≤_}
+use mathlib.Core.Path.{_≡_, sym, ap, subst, _∙_}
+use mathlib.Core.Bool.{Bool, true, false}
+use mathlib.Core.List.{List, map}
+use native.Mathlib.Omega.{arith}
+use lib.ListN.{length, take, drop, getD}
+use lib.Seq.{length-take-le}
+use Rattle.geometry.specs.Region.{Region}
+use Rattle.model.specs.declared.Grant.{Grant}
+use Rattle.pool.specs.Capacity.{Sized, InPool}
+use Rattle.pool.specs.Cell.{grantAt}
+use Rattle.pool.proofs.CapacityLaws.{cell-inPool, capacityOf-poolLength}
+use Rattle.adt.specs.Search.{broken, search}
+use Rattle.adt.specs.SearchMemory.{foundIn, Encodes}
+use Rattle.adt.proofs.EnterSteps.{stands-as}
+use Rattle.adt.proofs.HitLaws.{stands-within}
+use Rattle.steps.specs.declared.hits.Hits.{Hits}
+use Rattle.steps.specs.declared.hits.Hits.the-variants.{Broken, Found}
+use Rattle.calls.specs.Walks.{isBroken, hitsOf}
+use Rattle.steps.specs.Hits.{CellsAt, HitsAt, HitsFound}
+
+module _ (w : List ℕ) (c : ℕ) (q : Region) (sized : Sized w c)
+    {r : Bool} {h t : List ℕ} (s : Encodes c r h t (search w q)) where
+  pub hits-broken : r ≡ false → HitsFound w q h Broken
+  unfolding HitsFound
+  hits-broken e = sym (stands-as s e)
+
+  pub hits-found : r ≡ true → HitsFound w q h (Found (foundIn t))
+  unfolding HitsFound
+  hits-found e =
+      let st : Encodes c true h t (search w q) = subst (λ (b : Bool). Encodes c b h t (search w q)) e s in
+      let cap = capacityOf-poolLength w c (sized .long) in
+      let n = st .counted in
+      record {
+        unbroken = ap isBroken (sym (st .state));
+        found = ap hitsOf (sym (st .state));
+        few = omega (arith, cap, n .found-met, n .met-cells);
+        cells =
+            record {
+              room = n .hit-room;
+              few = omega (arith, n .found-met, n .met-cells, sized .few);
+              cell = λ i lt.
+                  let k = stands-within w q st (sized .few) cap i lt in
+                  cell-inPool sized (k .some) (k .few);
+            };
+      }
+
+-- p is the range that was searched for
+module _ (w : List ℕ) {p q : Region} (same : p ≡ q) (h : List ℕ) {r : Hits} (f : HitsFound w p h r) where
+  pub broken-search : r ≡ Broken → search w q ≡ broken
+  unfolding HitsFound
+  broken-search e = ap (search w) (sym same) ∙ subst (HitsFound w p h) e f
+
+  pub found-hits : {n : ℕ} → r ≡ Found n → HitsAt w q h n
+  unfolding HitsFound
+  found-hits {n} e = subst (λ (g : Region). HitsAt w g h n) same (subst (HitsFound w p h) e f)
+
+pub length-hits : (w : List ℕ) (q : Region) (h : List ℕ) {n : ℕ} → HitsAt w q h n → length (hitsOf (search w q)) ≡ n
+length-hits w q h {n} at = ap length (at .found) ∙ length-take-le n h (omega (arith, at .cells .room, at .cells .few))
+
+-- what a read of a cell asks, of the cell of a hit
+pub cell-hit : {w h : List ℕ} {n : ℕ} → CellsAt w h n → {i k : ℕ} → i < n → k ≡ getD h i 0 → InPool w k
+cell-hit {w} cells {i} lt e = subst (InPool w) (sym e) (cells .cell i lt)
+
+-- the hits fill a part of a list that is long enough
+pub cells-part : {w h : List ℕ} {n : ℕ} → CellsAt w h n → (l : List ℕ) → n ≤ length l → CellsAt w h (length (take n l))
+cells-part {w} {h} {n} cells l room = subst (λ (k : ℕ). CellsAt w h k) (sym (length-take-le n l room)) cells
+
+-- the grants in the cells of the hits from the i-th to the last of n
+abbrev pub grantsFrom : List ℕ → List ℕ → ℕ → ℕ → List Grant
+grantsFrom w hits n i = map (grantAt w) (drop i (take n hits))

@@ -1,0 +1,52 @@
+-- What a search leaves for list, decide, count, write and match: the cells of its hits, in order, at the start of a list of 2,048 words.
+--   Searchable w c q hits  what the search asks: a pool of c cells, a range of that form, and room for a hit of every cell
+--   CellsAt w hits n       the first n of the list are cells of the pool w
+--   HitsAt w q hits n      they are the hits of the search for the range q
+--   grantsAt w hits n      the grants in those cells
+--   numbersAt w ks         the numbers of the grants in the cells ks
+--   HitsFound w q hits r   r says of that search that it is broken, or how many hits are at the start of the list
+-- The contracts of inner functions cite these; no claim does. Assumes nothing: these are definitions.
+use Prim.Native.Nat.{ℕ, _<_, _≤_}
+use mathlib.Core.Path.{_≡_}
+use mathlib.Core.Bool.{false}
+use mathlib.Core.List.{List, map}
+use lib.ListN.{length, take, getD}
+use Rattle.model.specs.Limits.{maxGrants}
+use Rattle.model.specs.declared.Grant.{Grant}
+use Rattle.geometry.specs.Region.{Region}
+use Rattle.geometry.specs.SearchRange.{OneSided}
+use Rattle.pool.specs.Capacity.{Sized, InPool, capacityOf}
+use Rattle.pool.specs.Cell.{grantAt}
+use Rattle.adt.specs.Search.{broken, search}
+use Rattle.steps.specs.declared.hits.Hits.{Hits}
+use Rattle.steps.specs.declared.hits.Hits.the-variants.{Broken, Found}
+use Rattle.calls.specs.Walks.{hitsOf, isBroken}
+
+-- the pool has its size, the range one of the forms of geometry's SearchRange, and the list the length of the largest pool
+pub record Searchable (w : List ℕ) (c : ℕ) (q : Region) (hits : List ℕ) : Type 0 where
+  pub sized : Sized w c
+  pub one-sided : OneSided q
+  pub room : length hits ≡ maxGrants
+
+-- each can be read as a cell
+pub record CellsAt (w hits : List ℕ) (n : ℕ) : Type 0 where
+  pub room : length hits ≡ maxGrants
+  pub few : n ≤ maxGrants
+  pub cell : (i : ℕ) → i < n → InPool w (getD hits i 0)
+
+abbrev pub grantsAt : List ℕ → List ℕ → ℕ → List Grant
+grantsAt w hits n = map (grantAt w) (take n hits)
+
+abbrev pub numbersAt : List ℕ → List ℕ → List ℕ
+numbersAt w ks = map (λ g. g .number) (map (grantAt w) ks)
+
+-- the search met no cause of fault 9, and its hits are the first n of the list
+pub record HitsAt (w : List ℕ) (q : Region) (hits : List ℕ) (n : ℕ) : Type 0 where
+  pub unbroken : isBroken (search w q) ≡ false
+  pub found : hitsOf (search w q) ≡ take n hits
+  pub few : n ≤ capacityOf w
+  pub cells : CellsAt w hits n
+
+unfoldable pub HitsFound : List ℕ → Region → List ℕ → Hits → Type 0
+HitsFound w q hits Broken = search w q ≡ broken
+HitsFound w q hits (Found n) = HitsAt w q hits n
