@@ -2,25 +2,23 @@
 --   number-word, a-word, b-word       a word's parts read back, where they fit their bits
 --   refusal-list, refusal-other       a refusal's value is a with fault 8, b with any other
 --   packs-pool, packs-lent, packs-out a call's answer, packed, with what it leaves
---   block-answer                      block read's verdict is the answer of its call
 --   place-modulo                      where a block's records start, modulo what b holds, from the block's number modulo the same
 --   part-none, part-some              the packed part of a block: empty, or not
 -- Assumes nothing.
 use Prim.Native.Nat.{ℕ, _+_, _*_, _/_, _%_, _<_}
-use mathlib.Core.Path.{_≡_, refl, ap, subst, _∙_}
-use mathlib.Core.List.{List, []}
-use mathlib.Core.Option.{Option, none, some}
+use mathlib.Core.Logic.{_⊎_, inl, inr}
+use mathlib.Core.Path.{_≡_, ap, subst, _∙_}
+use mathlib.Core.List.{List}
 use native.Mathlib.Omega.{arith}
 use lib.ListN.{length}
+use denote.Ref.{RefT, now}
 use borrow.Author.Tests.{eq-eqb, ne-eqb}
-use Rattle.model.specs.declared.Fault.{Fault}
-use Rattle.model.specs.Answer.{Answer, accepted}
-use Rattle.model.specs.Refusal.{Step, firstFault, stepBy, refusing}
+use Rattle.model.specs.Answer.{Answer}
+use Rattle.model.specs.Refusal.{Step}
 use Rattle.grants_file.specs.Layout.{blockBytes, recordsPlace}
-use Rattle.grants_file.specs.BlockRead.{readCauses, partOf}
-use Rattle.grants_file.specs.Answers.{answerBy, readAnswer}
+use Rattle.grants_file.specs.BlockRead.{Part, emptyPart, partAt, Occupies}
+use Rattle.grants_file.proofs.BlockReadSteps.{RecordsAt, part-cases}
 use Rattle.calls.specs.Contract.{Leaves, Lends}
-use Rattle.calls.specs.FileCalls.{blockCall}
 use Rattle.c_api.specs.Pack.{word, firstOf, packRefusal, pack, packPart, listTooShort}
 use Rattle.c_api.specs.Contract.{PacksPool, PacksLent, PacksOut}
 
@@ -54,22 +52,22 @@ module _ {a : Answer} {r : ℕ} {memory : List ℕ} {s : Step (List ℕ)} where
 pub packs-out : {a b : Answer} {r : ℕ} {out before : List ℕ} → a ≡ b → PacksOut r out before a → PacksOut r out before b
 packs-out e p = subst (PacksOut _ _ _) e p
 
-pub block-answer : (f : List ℕ) (i : ℕ) → readAnswer f i ≡ blockCall f i .answer
-unfolding readAnswer blockCall refusing
-block-answer f i = go (firstFault (readCauses f i))
-  where
-    go : (o : Option Fault) → answerBy o ≡ stepBy o f [] (record { state = f; answer = accepted []; lent = [] }) .answer
-    go none = refl
-    go (some fault) = refl
-
 pub place-modulo : (i : ℕ) → (blockBytes * (i % 4294967296) + recordsPlace) % 4294967296 ≡ (blockBytes * i + recordsPlace) % 4294967296
 place-modulo i = omega arith
 
-module _ (f : List ℕ) (i : ℕ) {part : List ℕ} {r : ℕ} (e : part ≡ partOf f i) where
-  pub part-none : length part ≡ 0 → r ≡ word 0 0 0 → r ≡ packPart f i
+module _ (i : ℕ) {whole part : RefT (List ℕ)} (o : Occupies (partAt (now whole) i) whole part) {r : ℕ} where
+  pub part-none : length (now part) ≡ 0 → r ≡ word 0 0 0 → r ≡ packPart (now whole) i
   unfolding packPart
-  part-none z p = rw (← e, eq-eqb (length part) 0 z) p
+  part-none z p = go (part-cases (now whole) i)
+    where
+      go : (partAt (now whole) i ≡ emptyPart) ⊎ RecordsAt (now whole) i → r ≡ word 0 (partAt (now whole) i .size) (partAt (now whole) i .from)
+      go (inl e) = rw e p
+      go (inr h) = absurd (omega (arith, h .some, o .long, ap (λ (x : Part). x .size) (h .part)))
 
-  pub part-some : (length part ≡ 0 → ⊥) → r ≡ word 0 (length part) (blockBytes * (i % 4294967296) + recordsPlace) → r ≡ packPart f i
+  pub part-some : (length (now part) ≡ 0 → ⊥) → r ≡ word 0 (length (now part)) (blockBytes * (i % 4294967296) + recordsPlace) → r ≡ packPart (now whole) i
   unfolding packPart word
-  part-some n p = rw (← e, ne-eqb (length part) 0 n, ← place-modulo i) p
+  part-some n p = go (part-cases (now whole) i)
+    where
+      go : (partAt (now whole) i ≡ emptyPart) ⊎ RecordsAt (now whole) i → r ≡ word 0 (partAt (now whole) i .size) (partAt (now whole) i .from)
+      go (inl e) = absurd (n (o .long ∙ ap (λ (x : Part). x .size) e))
+      go (inr h) = rw (h .part) (rw (← (o .long ∙ ap (λ (x : Part). x .size) (h .part)), ← place-modulo i) p)

@@ -13,13 +13,12 @@ use Prim.Native.Nat.{ℕ, _+_, _*_, _%_}
 use mathlib.Core.Bool.{cond}
 use mathlib.Core.List.{List}
 use lib.Dec.{eqb}
-use lib.ListN.{length, getD}
+use lib.ListN.{getD}
 use Rattle.model.specs.declared.Box.{Box}
 use Rattle.model.specs.declared.Fault.the-variants.{ListTooShort}
 use Rattle.model.specs.Fault.{faultNumber}
 use Rattle.model.specs.Answer.{Answer, accepted, refused}
-use Rattle.grants_file.specs.Layout.{blockBytes, recordsPlace}
-use Rattle.grants_file.specs.BlockRead.{partOf}
+use Rattle.grants_file.specs.BlockRead.{partAt}
 
 abbrev pub numberValues : ℕ
 numberValues = 256
@@ -60,9 +59,7 @@ packLength (accepted values) = word 0 0 (firstOf values)
 packLength (refused number values) = packRefusal number values
 
 unfoldable pub packPart : List ℕ → ℕ → ℕ
-packPart f i =
-    let size = length (partOf f i) in
-    cond (eqb size 0) (word 0 0 0) (word 0 size (blockBytes * i + recordsPlace))
+packPart f i = word 0 (partAt f i .size) (partAt f i .from)
 
 abbrev pub boxOf : ℕ → ℕ → ℕ → ℕ → ℕ → ℕ → Box
 boxOf staffFrom staffTo doorFrom doorTo quarterFrom quarterTo =

@@ -3,7 +3,8 @@
 ghost use mathlib.Core.Path.{_≡_};
 ghost use Rattle.model.specs.Call.{request};
 ghost use Rattle.calls.specs.Calls.{startCall, grantCall, revokeCall, listCall, decideCall, countCall};
-ghost use Rattle.calls.specs.FileCalls.{writeCall, loadCall, matchCall, blockCall};
+ghost use Rattle.grants_file.specs.BlockRead.{blockCall};
+ghost use Rattle.calls.specs.FileCalls.{writeCall, loadCall, matchCall};
 ghost use Rattle.c_api.specs.Pack.{pack, packPair, packLength, packPart, boxOf};
 ghost use Rattle.c_api.specs.Contract.{PacksPool, PacksLent, PacksOut};
 use crate::pack::pack_counted;

@@ -43,7 +43,7 @@ use Rattle.adt.specs.Reach.{Holds}
 use Rattle.grants_file.specs.Layout.{blockBytes}
 use Rattle.grants_file.specs.Record.{encodeRecord}
 use Rattle.grants_file.specs.File.{chunk, fileOf, blocksIn, grantsIn}
-use Rattle.grants_file.specs.BlockRead.{readCauses, partOf}
+use Rattle.grants_file.specs.BlockRead.{readCauses, partOf, blockCall}
 use Rattle.grants_file.specs.FileSets.{Accepted, DoorRange, FileSet, Ordering}
 use Rattle.grants_file.proofs.CauseLaws.{Passes, accepted-iff}
 use Rattle.grants_file.proofs.VerdictLaws.{accepted-files}
@@ -51,7 +51,7 @@ use Rattle.grants_file.proofs.OneByteLaws.{one-byte}
 use Rattle.grants_file.proofs.PartLaws.{passes-read, part-first, part-grants, part-refusal}
 use Rattle.grants_file.proofs.SetLaws.{set-touching}
 use Rattle.calls.specs.Calls.{startCall, listCall, decideCall, wordsStep}
-use Rattle.calls.specs.FileCalls.{grantAll, loadCall, matchCall, blockCall}
+use Rattle.calls.specs.FileCalls.{grantAll, loadCall, matchCall}
 use Rattle.calls.proofs.Represents.{grantNumber, Represents, live-distinct, represents-rises}
 use Rattle.calls.proofs.QueryLaws.{list-refines, decide-refines}
 use Rattle.calls.proofs.StartLaws.{start-sized}

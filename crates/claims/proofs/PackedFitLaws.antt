@@ -4,13 +4,14 @@
 --   answers-fit     the claim
 -- Assumes nothing.
 use Prim.Native.Nat.{ℕ, zero, suc, _+_, _*_, _≤_, _<_, min}
+use mathlib.Core.Logic.{_⊎_, inl, inr}
 use mathlib.Core.Path.{_≡_, refl, sym, ap, subst}
 use mathlib.Core.Bool.{Bool, true, false, cond}
 use mathlib.Core.List.{List, [], _∷_, _++_, flatMap, List·Memᴰ, List·Memᴰ·head, List·Memᴰ·tail, Memᴰ·of-map}
 use mathlib.Core.Option.{Option, none, some}
 use native.Mathlib.Omega.{arith}
 use lib.Dec.{leb, ltb, lit<}
-use lib.ListN.{length, drop, length-take, length-drop}
+use lib.ListN.{length}
 use borrow.Author.Tests.{leb-false, lt-ltb}
 use Rattle.lists.specs.Tests.{every}
 use Rattle.lists.specs.Ranges.{countFrom}
@@ -32,6 +33,7 @@ use Rattle.model.specs.Decide.{decideAmong, decidingOf, decisionOf}
 use Rattle.model.specs.Call.{Request}
 use Rattle.model.specs.Values.{wordValues, byteValues, Below}
 use Rattle.model.proofs.RefusalLaws.{causes-absent, append-absent}
+use Rattle.model.proofs.JudgedLaws.{noneOf-iff}
 use Rattle.geometry.specs.Region.{Region}
 use Rattle.geometry.specs.SearchRange.{rangeOfBox, rangeOfDoors, rangeOfAll}
 use Rattle.pool.specs.declared.Field.the-variants.{Number}
@@ -40,23 +42,23 @@ use Rattle.pool.specs.Cell.{grantAt}
 use Rattle.pool.specs.Capacity.{capacityOf, wrongPool}
 use Rattle.pool.proofs.CapacityLaws.{capacityOf-poolLength, wrongPool-iff}
 use Rattle.adt.specs.Search.{search}
-use Rattle.grants_file.specs.Layout.{blockBytes, maxBlocks, recordsPlace, recordBytes}
+use Rattle.grants_file.specs.Layout.{maxBlocks}
 use Rattle.grants_file.specs.Record.{recordNumber}
 use Rattle.grants_file.specs.Block.{countOf, recordsOf}
 use Rattle.grants_file.specs.File.{countIn, blocksIn, blockAt, wrongBlockCount, totalIn, doorsIn}
 use Rattle.grants_file.specs.Defects.{DefectCause, startDefects, layoutDefects, recordDefects, recordsDefects}
 use Rattle.grants_file.specs.Defects.{lastBefore, miscounted, contentDefects, blockDefects, fileDefects}
 use Rattle.grants_file.specs.Verdict.{causesOf, fileCauses}
-use Rattle.grants_file.specs.BlockRead.{notInFile, wrongCount, restDefects, readCauses, partOf}
+use Rattle.grants_file.specs.BlockRead.{notInFile, wrongCount, restDefects, readCauses, blockCall, Part, emptyPart, partAt}
 use Rattle.grants_file.proofs.BytesLaws.{getD-below}
 use Rattle.grants_file.proofs.CauseLaws.{Whole, wrongBlockCount-iff, accepted-iff}
 use Rattle.grants_file.proofs.VerdictLaws.{passes-set}
-use Rattle.grants_file.proofs.PartLaws.{part-refusal}
+use Rattle.grants_file.proofs.BlockReadSteps.{RecordsAt, part-cases}
 use Rattle.calls.specs.Walks.{boxSearch, doorSearch, hitsOf, grantsHit}
 use Rattle.calls.specs.Causes.{lengthNeeded}
 use Rattle.calls.specs.Order.{startOrder, grantOrder, revokeOrder, listOrder, lookOrder, writeOrder, loadOrder, matchOrder}
 use Rattle.calls.specs.Calls.{startCall, grantCall, revokeCall, listCall, decideCall, countCall}
-use Rattle.calls.specs.FileCalls.{touchingGrants, writeCall, loadCall, firstDifference, matchCall, blockCall}
+use Rattle.calls.specs.FileCalls.{touchingGrants, writeCall, loadCall, firstDifference, matchCall}
 use Rattle.c_api.specs.Pack.{aValues}
 use Rattle.calls.proofs.FewHitsLaws.{hits-few}
 use Rattle.claims.specs.PackedFits.{Fits, FitsPair, FitsLength, FitsPart, AnswersFit}
@@ -216,7 +218,7 @@ match-fits w f words bytes =
     call-fits Fits fault-fits _ w [] _ (small-first _ _ (lit< tt) (λ right. file-small f _ refl))
     (λ e.
     let file = append-absent (fileCauses f) _ (causes-absent _ _ e .1) .0 in
-    let set = passes-set f bytes (accepted-iff f .0 file) in
+    let set = passes-set f bytes (accepted-iff f .0 (noneOf-iff (fileCauses f) .1 file)) in
     difference-fits _ _ (touching-numbered w (doorsIn f) words) (λ g m. set .each g m .fits .number))
 
 -- a block that block read does not refuse with 10
@@ -246,28 +248,17 @@ block-fits f i =
     small-all _ (small-join (startDefects (blockAt f i) i) (restDefects f i) (start-small i few (blockAt f i)) (rest-small f i few))))
     (λ e. lit< tt)
 
-part-few : (f : List ℕ) (i : ℕ) → firstFault (readCauses f i) ≡ none → length (partOf f i) ≤ length f
-unfolding partOf
-part-few f zero e = rw e (omega arith)
-part-few f (suc i) e =
-    let at = blockBytes * suc i + recordsPlace in
-    let n = recordBytes * countOf (blockAt f (suc i)) in
-    rw e (omega (arith, length-take n (drop at f), length-drop at f))
-
 part-fits : (f : List ℕ) (i : ℕ) → FitsPart f i
-unfolding readCauses
-part-fits f i = go (firstFault (readCauses f i)) refl
+part-fits f i = go (part-cases f i)
   where
-    go : (o : Option Fault) → firstFault (readCauses f i) ≡ o → FitsPart f i
-    go none e =
-        let b = block-inside f i (causes-absent _ _ e .0) in
+    go : (partAt f i ≡ emptyPart) ⊎ RecordsAt f i → FitsPart f i
+    go (inl e) = record { size = rw e (lit< tt); place = rw e (lit< tt) }
+    go (inr h) =
+        let b = block-inside f i (h .present) in
         record {
-          size = omega (arith, part-few f i e, b .whole .whole, b .whole .few);
-          place = λ some. omega (arith, b .inside, b .whole .few);
+          size = omega (arith, ap (λ (x : Part). x .size) (h .part), h .few);
+          place = omega (arith, ap (λ (x : Part). x .from) (h .part), b .inside, b .whole .few);
         }
-    go (some fault) e =
-        let empty = ap length (part-refusal f i (λ n. let z : _≡_ {A = ℕ} 0 1 = cc in absurd (omega arith))) in
-        record { size = omega (arith, empty); place = λ some. absurd (omega (arith, empty)) }
 
 pub answers-fit : AnswersFit
 answers-fit =

@@ -2,16 +2,11 @@
 --   reads-word     a word's three parts, where they fit their bits
 --   reads-back     the claim
 -- Assumes nothing.
-use Prim.Native.Nat.{ℕ, _+_, _*_, _<_}
-use mathlib.Core.Path.{_≡_, refl}
+use Prim.Native.Nat.{ℕ, _<_}
 use mathlib.Core.Bool.{Bool, true, false, cond}
 use mathlib.Core.List.{List}
-use native.Mathlib.Omega.{arith}
 use lib.Dec.{eqb, lit<}
-use lib.ListN.{length}
-use borrow.Author.Tests.{eqb-true, eqb-false}
-use Rattle.grants_file.specs.Layout.{blockBytes, recordsPlace}
-use Rattle.grants_file.specs.BlockRead.{partOf}
+use Rattle.grants_file.specs.BlockRead.{partAt}
 use Rattle.c_api.specs.Pack.{numberValues, aValues, bValues, word, firstOf, packRefusal, packPart, listTooShort}
 use Rattle.claims.specs.PackedFits.{FitsRefusal, FitsPart}
 use Rattle.claims.specs.PackedReads.{Reads, ReadsBack}
@@ -33,22 +28,9 @@ refusal-reads number values h = go (eqb number listTooShort) (h .value)
     go true k = reads-word number v 0 (h .few) k (lit< tt)
     go false k = reads-word number 0 v (h .few) (lit< tt) k
 
-part-reads : (f : List ℕ) (i : ℕ) → FitsPart f i
-    → Reads (packPart f i) 0 (length (partOf f i)) (cond (eqb (length (partOf f i)) 0) 0 (blockBytes * i + recordsPlace))
+part-reads : (f : List ℕ) (i : ℕ) → FitsPart f i → Reads (packPart f i) 0 (partAt f i .size) (partAt f i .from)
 unfolding packPart
-part-reads f i h = go (eqb size 0) refl
-  where
-    size : ℕ
-    size = length (partOf f i)
-
-    place : ℕ
-    place = blockBytes * i + recordsPlace
-
-    go : (empty : Bool) → eqb size 0 ≡ empty → Reads (cond empty (word 0 0 0) (word 0 size place)) 0 size (cond empty 0 place)
-    go true e = rw (eqb-true size 0 e) (reads-word 0 0 0 (lit< tt) (lit< tt) (lit< tt))
-    go false e =
-        let some : 0 < size = omega (arith, eqb-false size 0 e) in
-        reads-word 0 size place (lit< tt) (h .size) (h .place some)
+part-reads f i h = reads-word 0 (partAt f i .size) (partAt f i .from) (lit< tt) (h .size) (h .place)
 
 pub reads-back : ReadsBack
 reads-back =

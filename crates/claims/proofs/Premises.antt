@@ -14,6 +14,7 @@ use mathlib.Core.Logic.{_≢_}
 use mathlib.Core.Path.{_≡_, refl, sym, ap, subst}
 use mathlib.Core.Bool.{true, false}
 use mathlib.Core.List.{List, [], _∷_, List·Memᴰ, List·Memᴰ·head, List·Memᴰ·tail}
+use mathlib.Core.Option.{none}
 use native.Mathlib.Omega.{arith}
 use lib.Dec.{T, ltb}
 use lib.ListN.{length, getD, replicate}
@@ -31,20 +32,22 @@ use Rattle.model.specs.Overlap.{overlaps}
 use Rattle.model.specs.Grant.{touches}
 use Rattle.model.specs.Answer.{accepted}
 use Rattle.model.specs.Refusal.{firstFault, refusing}
-use Rattle.model.specs.Arguments.{reversedBox}
-use Rattle.model.specs.Call.{Call, grant}
+use Rattle.model.specs.Judged.{NoneOf}
+use Rattle.model.specs.Arguments.{reversedBox, requestCauses}
+use Rattle.model.specs.Call.{Call, grant, requestOf}
 use Rattle.model.specs.Values.{wordValues, byteValues, Below, GrantFits, CallFits, CallsFit}
 use Rattle.model.specs.Book.{bookGrant, bookList, bookStep}
 use Rattle.model.specs.Histories.{Response, after}
 use Rattle.model.proofs.AnswerLaws.{refusal-accepted}
+use Rattle.model.proofs.JudgedLaws.{noneOf-iff}
 use Rattle.grants_file.specs.Block.{sealed, headerBlock}
 use Rattle.grants_file.specs.File.{fileOf, blocksIn, wrongBlockCount}
-use Rattle.grants_file.specs.BlockRead.{notInFile, readCauses}
+use Rattle.grants_file.specs.BlockRead.{notInFile, readCauses, blockCall}
 use Rattle.grants_file.specs.FileSets.{Accepted, DoorRange, ascending-none, ascending-more, FileSet, Ordering}
 use Rattle.grants_file.proofs.FileLaws.{length-fileOf, fileOf-below}
 use Rattle.grants_file.proofs.VerdictLaws.{fileOf-accepted}
 use Rattle.calls.specs.Calls.{listCall, wordsStep}
-use Rattle.calls.specs.FileCalls.{requestOf, loadCall, blockCall}
+use Rattle.calls.specs.FileCalls.{loadCall}
 use Rattle.calls.proofs.QueryLaws.{list-refines}
 use Rattle.calls.proofs.LoadLaws.{requestOf-fits}
 use Rattle.claims.specs.Claims.{Memory, wordsAfter, liveAfter, touching, Made, made-start, made-load}
@@ -100,8 +103,11 @@ memory-met = record { some = omega arith; few = omega arith; long = refl }
 pub doors-met : DoorRange doors
 doors-met = record { order = omega arith; fits = omega arith }
 
+none-met : (g : Grant) → firstFault (requestCauses (requestOf g)) ≡ none → NoneOf (requestCauses (requestOf g))
+none-met g e = noneOf-iff (requestCauses (requestOf g)) .1 e
+
 pub set-met : FileSet doors grants
-unfolding reversedBox
+unfolding reversedBox firstFault
 set-met =
     record {
       doors = doors-met;
@@ -110,7 +116,7 @@ set-met =
       each = λ g m.
           record {
             fits = grant-met g m;
-            order = both (λ x. reversedBox (x .bounds) ≡ false) refl refl g m;
+            faultless = both (λ x. NoneOf (requestCauses (requestOf x))) (none-met seven refl) (none-met broken refl) g m;
             touching = both (λ x. touches doors x ≡ true) refl refl g m;
           };
     }

@@ -43,12 +43,12 @@ use Rattle.grants_file.specs.Block.{sealed, headerBlock, recordBlock, recordsOf
 use Rattle.grants_file.specs.File.{fileOf, wrongBlockCount, doorsIn, grantsIn}
 use Rattle.grants_file.specs.Defects.{recordsDefects, lastBefore, contentDefects, fileDefects}
 use Rattle.grants_file.specs.Verdict.{fileCauses}
-use Rattle.grants_file.specs.BlockRead.{notInFile, wrongCount, restDefects, readCauses, partOf}
+use Rattle.grants_file.specs.BlockRead.{notInFile, wrongCount, restDefects, readCauses, partOf, blockCall}
 use Rattle.calls.specs.Causes.{grantBroken, revokeBroken}
 use Rattle.calls.specs.LinkCauses.{searchMeets9, searchHits, grantMeets9, revokeMeets9}
 use Rattle.calls.specs.Order.{startOrder, grantOrder, revokeOrder, listOrder, lookOrder, writeOrder, loadOrder, matchOrder}
 use Rattle.calls.specs.Calls.{startCall, grantCall, revokeCall, listCall, decideCall, countCall, wordsStep}
-use Rattle.calls.specs.FileCalls.{writeCall, grantAll, loadCall, firstDifference, matchCall, blockCall}
+use Rattle.calls.specs.FileCalls.{writeCall, grantAll, loadCall, firstDifference, matchCall}
 use Rattle.model.specs.Histories.{Response, responses, after}
 use Rattle.claims.proofs.Cases.{Case, passed, one, test}
 use Rattle.claims.proofs.Cases as say

@@ -41,11 +41,11 @@ use Rattle.pool.specs.Capacity.{Sized, wrongLength, wrongPool}
 use Rattle.grants_file.specs.Layout.{blockBytes}
 use Rattle.grants_file.specs.Record.{encodeRecord}
 use Rattle.grants_file.specs.File.{chunk, fileOf, blocksIn, doorsIn, grantsIn}
-use Rattle.grants_file.specs.BlockRead.{readCauses, partOf}
+use Rattle.grants_file.specs.BlockRead.{readCauses, partOf, blockCall}
 use Rattle.calls.specs.LinkCauses.{searchMeets9, searchHits, grantMeets9, revokeMeets9}
 use Rattle.calls.specs.Order.{startOrder, grantOrder, revokeOrder, listOrder, lookOrder, writeOrder, loadOrder, matchOrder}
 use Rattle.calls.specs.Calls.{startCall, grantCall, revokeCall, listCall, decideCall, countCall, wordsStep}
-use Rattle.calls.specs.FileCalls.{writeCall, grantAll, loadCall, matchCall, blockCall}
+use Rattle.calls.specs.FileCalls.{writeCall, grantAll, loadCall, matchCall}
 use Rattle.model.specs.Values.{byteValues, Below, GrantFits, CallFits, CallsFit}
 use Rattle.model.specs.Histories.{responseOf, responses, after}
 use Rattle.adt.specs.Reach.{Holds}

@@ -6,20 +6,18 @@
 --   FitsPart f i                 for packPart: the length of block i's part as a, the place where it starts as b
 --   AnswersFit                   the claim: each C function's answer fits its packing, on any memory and whatever is asked
 -- Assumes nothing: these are definitions.
-use Prim.Native.Nat.{ℕ, _+_, _*_, _<_}
+use Prim.Native.Nat.{ℕ, _<_}
 use mathlib.Core.Bool.{cond}
 use mathlib.Core.List.{List}
 use lib.Dec.{eqb}
-use lib.ListN.{length}
 use Rattle.model.specs.declared.Box.{Box}
 use Rattle.model.specs.Interval.{Interval}
 use Rattle.model.specs.Answer.{Answer, accepted, refused}
 use Rattle.model.specs.Call.{Request}
 use Rattle.model.specs.Values.{wordValues, byteValues, Below}
-use Rattle.grants_file.specs.Layout.{blockBytes, recordsPlace}
-use Rattle.grants_file.specs.BlockRead.{partOf}
+use Rattle.grants_file.specs.BlockRead.{partAt, blockCall}
 use Rattle.calls.specs.Calls.{startCall, grantCall, revokeCall, listCall, decideCall, countCall}
-use Rattle.calls.specs.FileCalls.{writeCall, loadCall, matchCall, blockCall}
+use Rattle.calls.specs.FileCalls.{writeCall, loadCall, matchCall}
 use Rattle.c_api.specs.Pack.{numberValues, aValues, bValues, firstOf, secondOf, listTooShort}
 
 -- fault 8's value is a, any other fault's b
@@ -41,8 +39,8 @@ FitsLength (accepted values) = firstOf values < bValues
 FitsLength (refused number values) = FitsRefusal number values
 
 pub record FitsPart (f : List ℕ) (i : ℕ) : Type 0 where
-  pub size : length (partOf f i) < aValues
-  pub place : 0 < length (partOf f i) → blockBytes * i + recordsPlace < bValues
+  pub size : partAt f i .size < aValues
+  pub place : partAt f i .from < bValues
 
 -- match's answer is a number of the pool or of the file, so it asks that they are words of 16 bits and bytes
 pub record AnswersFit : Type 0 where

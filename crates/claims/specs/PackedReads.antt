@@ -2,15 +2,13 @@
 --   Reads x number a b    LG_FAULT, LG_A and LG_B of include/lg.h, by shifts and masks, take these three from the word x
 --   ReadsBack             the claim: a packed answer that fits (Fits) reads back as its number, 0 if accepted, and its packed values
 -- Assumes nothing: these are definitions.
-use Prim.Native.Nat.{ℕ, _+_, _*_, _/_, _%_}
+use Prim.Native.Nat.{ℕ, _/_, _%_}
 use mathlib.Core.Path.{_≡_}
 use mathlib.Core.Bool.{cond}
 use mathlib.Core.List.{List}
 use lib.Dec.{eqb}
-use lib.ListN.{length}
 use Rattle.model.specs.Answer.{accepted}
-use Rattle.grants_file.specs.Layout.{blockBytes, recordsPlace}
-use Rattle.grants_file.specs.BlockRead.{partOf}
+use Rattle.grants_file.specs.BlockRead.{partAt}
 use Rattle.c_api.specs.Pack.{numberValues, aValues, firstOf, secondOf, packRefusal, pack, packPair, packLength, packPart, listTooShort}
 use Rattle.claims.specs.PackedFits.{FitsRefusal, Fits, FitsPair, FitsLength, FitsPart}
 
@@ -26,6 +24,4 @@ pub record ReadsBack : Type 0 where
   pub values : (values : List ℕ) → Fits (accepted values) → Reads (pack (accepted values)) 0 (firstOf values) 0
   pub pairs : (values : List ℕ) → FitsPair (accepted values) → Reads (packPair (accepted values)) 0 (firstOf values) (secondOf values)
   pub lengths : (values : List ℕ) → FitsLength (accepted values) → Reads (packLength (accepted values)) 0 0 (firstOf values)
-  pub parts : (f : List ℕ) (i : ℕ) → FitsPart f i
-      → let size = length (partOf f i) in
-      Reads (packPart f i) 0 size (cond (eqb size 0) 0 (blockBytes * i + recordsPlace))
+  pub parts : (f : List ℕ) (i : ℕ) → FitsPart f i → Reads (packPart f i) 0 (partAt f i .size) (partAt f i .from)

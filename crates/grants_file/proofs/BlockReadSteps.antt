@@ -4,10 +4,12 @@
 --   alone-start, alone-header, alone-layout the defects of a block
 --   read-length, read-answer                the verdict
 --   length-in, done-in, done-count          the block is in the file; its count is at most 31
+--   RecordsAt f i, part-cases               the part of a block is empty, or that of 1 to 31 records of a block in the file
 --   occupies, occupies-as                   a slice that is a part of another
 --   part-refused, part-header, part-records the part
 -- Assumes nothing.
 use Prim.Native.Nat.{ℕ, zero, suc, _+_, _<_, _≤_}
+use mathlib.Core.Logic.{_⊎_, inl, inr}
 use mathlib.Core.Path.{_≡_, refl, sym, ap, subst, _∙_}
 use mathlib.Core.Bool.{Bool, true, false, not, cond, _&&_, and-eq-true-iff}
 use mathlib.Core.List.{List, []}
@@ -97,22 +99,52 @@ no-fault : (f : List ℕ) (i : ℕ) → accepted [] ≡ blockCall f i .answer �
 unfolding blockCall
 no-fault f i e = judging-accepted f (readCauses f i) (sym e)
 
-pub done-in : (f : List ℕ) (i : ℕ) → accepted [] ≡ blockCall f i .answer → i < blocksIn f
+present-of : (f : List ℕ) (i : ℕ) → firstFault (readCauses f i) ≡ none → notInFile f i ≡ false
 unfolding readCauses
-done-in f i e = length-in f i (sym (causes-absent _ _ (no-fault f i e) .0))
+present-of f i e = causes-absent _ _ e .0
 
-few : (last : Bool) (n : ℕ) → not (cond last (leb 1 n && leb n recordsPerBlock) (eqb n recordsPerBlock)) ≡ false → n ≤ recordsPerBlock
+pub done-in : (f : List ℕ) (i : ℕ) → accepted [] ≡ blockCall f i .answer → i < blocksIn f
+done-in f i e = length-in f i (sym (present-of f i (no-fault f i e)))
+
+few : (last : Bool) (n : ℕ) → not (cond last (leb 1 n && leb n recordsPerBlock) (eqb n recordsPerBlock)) ≡ false → (1 ≤ n) × (n ≤ recordsPerBlock)
 few true n e =
-    leb-true n recordsPerBlock (and-eq-true-iff (leb 1 n) (leb n recordsPerBlock) .0 (not-false (leb 1 n && leb n recordsPerBlock) e) .1)
-few false n e = let same = eqb-true n recordsPerBlock (not-false (eqb n recordsPerBlock) e) in omega arith
+    let both = and-eq-true-iff (leb 1 n) (leb n recordsPerBlock) .0 (not-false (leb 1 n && leb n recordsPerBlock) e) in
+    (leb-true 1 n (both .0), leb-true n recordsPerBlock (both .1))
+few false n e = let same = eqb-true n recordsPerBlock (not-false (eqb n recordsPerBlock) e) in (omega arith, omega arith)
+
+-- an accepted block behind block 0 has 1 to 31 records
+counted : (f : List ℕ) (i : ℕ) → firstFault (readCauses f (suc i)) ≡ none
+    → (1 ≤ countOf (blockAt f (suc i))) × (countOf (blockAt f (suc i)) ≤ recordsPerBlock)
+unfolding readCauses restDefects wrongCount
+counted f i e =
+    let b = blockAt f (suc i) in
+    let clear = clear-append (startDefects b (suc i)) (restDefects f (suc i)) .0 (causes-absent _ _ e .1) .1 in
+    few (eqb (suc (suc i)) (blocksIn f)) (countOf b) (clear-parts _ _ clear refl .0)
 
 pub done-count : (f : List ℕ) (i : ℕ) → accepted [] ≡ blockCall f i .answer → (i ≡ 0 → ⊥) → countOf (blockAt f i) ≤ recordsPerBlock
-unfolding readCauses restDefects wrongCount
 done-count f zero e h = absurd (h refl)
-done-count f (suc i) e h =
-    let b = blockAt f (suc i) in
-    let clear = clear-append (startDefects b (suc i)) (restDefects f (suc i)) .0 (causes-absent _ _ (no-fault f (suc i) e) .1) .1 in
-    few (eqb (suc (suc i)) (blocksIn f)) (countOf b) (clear-parts _ _ clear refl .0)
+done-count f (suc i) e h = counted f i (no-fault f (suc i) e) .1
+
+-- what a part with bytes is
+pub record RecordsAt (f : List ℕ) (i : ℕ) : Type 0 where
+  pub part : partAt f i ≡ recordsPart f i
+  pub present : notInFile f i ≡ false
+  pub some : 1 ≤ countOf (blockAt f i)
+  pub few : countOf (blockAt f i) ≤ recordsPerBlock
+
+pub part-cases : (f : List ℕ) (i : ℕ) → (partAt f i ≡ emptyPart) ⊎ RecordsAt f i
+part-cases f zero = inl (go (firstFault (readCauses f 0)) refl)
+  where
+    go : (o : Option Fault) → firstFault (readCauses f 0) ≡ o → partAt f 0 ≡ emptyPart
+    go none e = rw e
+    go (some fault) e = rw e
+part-cases f (suc i) = go (firstFault (readCauses f (suc i))) refl
+  where
+    go : (o : Option Fault) → firstFault (readCauses f (suc i)) ≡ o → (partAt f (suc i) ≡ emptyPart) ⊎ RecordsAt f (suc i)
+    go none e =
+        let n = counted f i e in
+        inr (record { part = rw e; present = present-of f (suc i) e; some = n .0; few = n .1 })
+    go (some fault) e = inl (rw e)
 
 -- a slice that begins so many bytes behind the start of another, in its memory, and has the bytes there
 pub occupies : {p : Part} {whole part : RefT (List ℕ)} → part .ptr .0 ≡ whole .ptr .0 → part .ptr .1 ≡ whole .ptr .1 + p .from

@@ -11,7 +11,7 @@ word-requires : tie.Need-word-requires
 word-requires c κs = search needs
 
 returns : tie.Need-returns
-returns c = part-none _ _ (c .before .before .block-part .ensures) (c .before .if1 .taken) (c .word .ensures)
+returns c = part-none _ (c .before .before .block-part .ensures) (c .before .if1 .taken) (c .word .ensures)
 
 mul-start : tie.Need-mul-start
 mul-start c = search needs
@@ -23,7 +23,7 @@ word-requires-2 : tie.Need-word-requires-2
 word-requires-2 c κs = search needs
 
 returns-2 : tie.Need-returns-2
-returns-2 c = part-some _ _ (c .before .before .block-part .ensures) (c .before .if1 .left) (c .word2 .ensures)
+returns-2 c = part-some _ (c .before .before .block-part .ensures) (c .before .if1 .left) (c .word2 .ensures)
 
 pub lg-block-part-spec : {M : Type 1} → statement M
 lg-block-part-spec =

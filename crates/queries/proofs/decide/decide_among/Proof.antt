@@ -5,7 +5,7 @@ use mathlib.Core.Path.{_≡_, sym, _∙_}
 use mathlib.Core.Logic.{⊎-elim}
 use native.Mathlib.Omega.{arith}
 use Rattle.model.specs.Decide.{decidingOf}
-use Rattle.steps.proofs.HitsLaws.{cell-hit}
+use Rattle.steps.proofs.HitsLaws.{cell-hit, grantsFrom}
 use Rattle.queries.proofs.DecideLaws.{decides-none, decides-over, decides-under, decides-end}
 use borrow.Author.Needs.{needs}
 use Rattle.queries.proofs.decide.decide_among.Statement.{statement}
