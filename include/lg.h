@@ -6,6 +6,14 @@
  * valid for its length and aligned for its type, and memory that a call may change must not overlap the call's other memory. Every
  * call is safe on any contents: a pool that no call made is refused (1, 9) or answered, and never followed outside its words.
  *
+ * Threads: no call keeps state or takes a lock. Calls on memory of their own may run side by side. Calls that leave a pool as it was
+ * (lg_list, lg_decide, lg_count, lg_write, lg_match) may share it. A call that changes it (lg_start, lg_grant, lg_revoke, lg_load) needs
+ * it alone: two at once can lose a grant that both accepted, and break the links.
+ *
+ * Stack: no call allocates. A call needs at most LG_STACK_BYTES beside what its caller has on the stack, on any pool and any file;
+ * measured on x86-64 with the archive that `rt staticlib c_api` makes (tests/stack): lg_list 32,400 bytes, lg_write and lg_match 28,400,
+ * lg_grant, lg_revoke, lg_decide and lg_count 24,400, the others 400.
+ *
  * Every call returns one word:
  *
  *     bits 0 to 7     the fault's number in document 01's table; 0: accepted
@@ -39,6 +47,9 @@
 #ifdef __cplusplus
 extern "C" {
 #endif
+
+/* No call needs more stack: see above. */
+#define LG_STACK_BYTES 32768
 
 #define LG_FAULT(word) ((unsigned)((word) & 0xFFu))
 #define LG_A(word) ((uint32_t)(((word) >> 8) & 0xFFFFFFu))

@@ -1,11 +1,14 @@
 """The grant index for luggage lockers: functions over its C interface (include/lg.h), by ctypes alone.
 
-`Index` owns its memory. The functions below it make the same calls on a pool that the caller holds: any writable buffer of unsigned
-16-bit words, as array.array("H"). A call that is refused raises `Refused` and leaves all memory as it was; a value that does not fit
-its field raises ValueError before the library is asked.
+`Index` owns its memory, and threads may share one: it makes one call at a time. The functions make the same calls on a pool that the
+caller holds: any writable buffer of unsigned 16-bit words at an even address, as array.array("H"). There other threads run during a
+call, and the caller sees to it that readers alone share a pool and that a writer (start, grant, revoke, load) has it alone.
+
+A call that is refused raises `Refused` and leaves all memory as it was; a value that does not fit its field, and memory that can't be
+lent, raise ValueError before the library is asked.
 
 The library is the file that the script `build` makes: liblg.so in the folder target/python of the repository, or what the environment
-variable LG_LIBRARY names.
+variable LG_LIBRARY names. Where it isn't there, importing this module raises ImportError, which says how to make it.
 """
 import array
 import collections
@@ -13,9 +16,11 @@ import ctypes
 import enum
 import operator
 import os
+import threading
 
 WORD = 0xFFFF
 BYTE = 0xFF
+MOST_CELLS = 2048
 BARS, OPENS = 0, 1
 
 Bounds = collections.namedtuple("Bounds", "staff_from staff_to door_from door_to quarter_from quarter_to")
@@ -68,14 +73,24 @@ class Refused(Exception):
         super().__init__(sentence if self.value is None else "%s (%d)" % (sentence, self.value))
 
 
+_MAKE = (
+    "`rt staticlib c_api` in the repository and then its script bindings/python/build make target/python/liblg.so there;"
+    " the environment variable LG_LIBRARY names one elsewhere"
+)
+
+
 def _library():
+    """The library, with its functions declared; ImportError says how to make one where it can't be had."""
     here = os.path.dirname(os.path.abspath(__file__))
-    path = os.environ.get("LG_LIBRARY") or os.path.join(here, "..", "..", "target", "python", "liblg.so")
-    library = ctypes.CDLL(path)
-    for name, arguments in _ARGUMENTS.items():
-        function = getattr(library, "lg_" + name)
-        function.argtypes = arguments
-        function.restype = ctypes.c_uint64
+    path = os.environ.get("LG_LIBRARY") or os.path.normpath(os.path.join(here, "..", "..", "target", "python", "liblg.so"))
+    try:
+        library = ctypes.CDLL(path)
+        for name, arguments in _ARGUMENTS.items():
+            function = getattr(library, "lg_" + name)
+            function.argtypes = arguments
+            function.restype = ctypes.c_uint64
+    except (OSError, AttributeError) as error:
+        raise ImportError("the grant index's library can't be had: %s; %s" % (error, _MAKE), path=path) from error
     return library
 
 
@@ -113,12 +128,16 @@ def _box(bounds):
 
 
 def _lend(memory, element):
-    """Address and length of a writable buffer, and a view that holds it for the call."""
+    """Address and length of a writable buffer, and a view that holds it for the call. Memory of no length may lie at any address and
+    is not lent: something aligned stands for it."""
     view = memoryview(memory)
     if not view.c_contiguous or view.ndim != 1 or view.itemsize != ctypes.sizeof(element):
         raise ValueError("not a flat buffer of %d-byte elements" % ctypes.sizeof(element))
-    held = (element * len(view)).from_buffer(view)
-    return ctypes.addressof(held), len(view), held
+    held = (element * len(view)).from_buffer(view) if len(view) else (element * 0)()
+    address = ctypes.addressof(held)
+    if address % ctypes.alignment(element):
+        raise ValueError("16-bit words must begin at an even address, not at %#x: lend memory that is made of words" % address)
+    return address, len(view), held
 
 
 def _apart(pool, lent):
@@ -231,48 +250,67 @@ def block_part(file, number):
 
 
 class Index:
-    """An index of up to `capacity` grants, 1 to 2048, that owns its pool."""
+    """An index of up to `capacity` grants, 1 to 2048, that owns its pool. Threads may share it: a method waits until no other is at
+    work on it. A copy is an index of its own."""
 
     def __init__(self, capacity):
-        if not 1 <= capacity <= 2048:
-            raise Refused(Fault.BadPool)
+        if not 1 <= operator.index(capacity) <= MOST_CELLS:
+            raise ValueError("an index has 1 to {:,} cells, not {}".format(MOST_CELLS, capacity))
         self.pool = array.array("H", bytes(2 * (3 + 10 * capacity)))
+        self._alone = threading.RLock()
         start(self.pool)
+
+    def __getstate__(self):
+        with self._alone:
+            return self.pool[:]
+
+    def __setstate__(self, pool):
+        self.pool = pool
+        self._alone = threading.RLock()
 
     def start(self):
-        start(self.pool)
+        with self._alone:
+            start(self.pool)
 
     def grant(self, number, rank, kind, bounds):
-        grant(self.pool, number, rank, kind, bounds)
+        with self._alone:
+            grant(self.pool, number, rank, kind, bounds)
 
     def revoke(self, number):
-        revoke(self.pool, number)
+        with self._alone:
+            revoke(self.pool, number)
 
     def list(self, bounds):
         """The numbers of the live grants that overlap a box, ascending."""
-        numbers = array.array("H", bytes(2 * self.count().live))
-        return numbers[: list_into(self.pool, bounds, numbers)].tolist()
+        with self._alone:
+            numbers = array.array("H", bytes(2 * count(self.pool).live))
+            return numbers[: list_into(self.pool, bounds, numbers)].tolist()
 
     def decide(self, staff, door, quarter):
-        return decide(self.pool, staff, door, quarter)
+        with self._alone:
+            return decide(self.pool, staff, door, quarter)
 
     def count(self):
-        return count(self.pool)
+        with self._alone:
+            return count(self.pool)
 
     def write(self, door_from, door_to):
         """The grants file of a range of doors."""
-        try:
-            needed = write_into(self.pool, door_from, door_to, bytearray())
-        except Refused as refused:
-            if refused.fault != Fault.BufferTooShort:
-                raise
-            needed = refused.value
-        file = bytearray(needed)
-        write_into(self.pool, door_from, door_to, file)
-        return bytes(file)
+        with self._alone:
+            try:
+                needed = write_into(self.pool, door_from, door_to, bytearray())
+            except Refused as refused:
+                if refused.fault != Fault.BufferTooShort:
+                    raise
+                needed = refused.value
+            file = bytearray(needed)
+            write_into(self.pool, door_from, door_to, file)
+            return bytes(file)
 
     def load(self, file):
-        load(self.pool, file)
+        with self._alone:
+            load(self.pool, file)
 
     def match(self, file):
-        return match(self.pool, file)
+        with self._alone:
+            return match(self.pool, file)

@@ -4,18 +4,40 @@ use crate::answer::{Count, Decision, Match};
 use crate::fault::Fault;
 use crate::grant::{Bounds, Grant, Span};
 use crate::pool;
+use std::fmt;
 
-/// An index of up to `capacity` grants.
+/// A capacity that no index has: it is not 1 to 2048.
+#[derive(Clone, Copy, Debug, PartialEq, Eq, Hash)]
+pub struct BadCapacity {
+    pub capacity: u16,
+}
+
+impl fmt::Display for BadCapacity {
+    fn fmt(&self, f: &mut fmt::Formatter<'_>) -> fmt::Result {
+        write!(f, "an index has 1 to 2,048 cells, not {}", self.capacity)
+    }
+}
+
+impl std::error::Error for BadCapacity {}
+
+/// As the library has it, memory of that capacity is not a pool.
+impl From<BadCapacity> for Fault {
+    fn from(_: BadCapacity) -> Fault {
+        Fault::BadPool
+    }
+}
+
+/// An index of up to `capacity` grants. Threads may share it for reading; a call that changes it has it alone, as its `&mut` says.
 #[derive(Clone, Debug, PartialEq, Eq)]
 pub struct Index {
     words: Vec<u16>,
 }
 
 impl Index {
-    /// An empty index. Refuses 1 for a capacity that is not 1 to 2048.
-    pub fn new(capacity: u16) -> Result<Index, Fault> {
+    /// An empty index, of a capacity of 1 to 2048.
+    pub fn new(capacity: u16) -> Result<Index, BadCapacity> {
         let mut index = Index { words: vec![0; pool::words(capacity)] };
-        index.start()?;
+        index.start().map_err(|_| BadCapacity { capacity })?;
         Ok(index)
     }
 

@@ -16,4 +16,4 @@ pub mod pool;
 pub use answer::{Count, Decision, Match};
 pub use fault::Fault;
 pub use grant::{Bounds, Grant, Kind, Span};
-pub use index::Index;
+pub use index::{BadCapacity, Index};

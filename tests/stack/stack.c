@@ -1,0 +1,236 @@
+/* How much stack each call of include/lg.h needs at most: it is made on memory that was painted, and the deepest byte that changed is
+ * looked for. The pools are full ones that calls made, one of them as deep as calls can make it, and scrambled ones whose cells hang
+ * down to level 112; the lists, files and pools have the most that there can be.
+ *
+ *     stack      prints a row for each call; status 1 where one needs more than LG_STACK_BYTES */
+#define _XOPEN_SOURCE 700
+#include "lg.h"
+
+#include <stdio.h>
+#include <stdlib.h>
+#include <string.h>
+#include <ucontext.h>
+
+enum { CELLS = 2048, WORDS = 3 + 10 * CELLS, FILE_BYTES = 512 * 68, LEVELS = 112, AXES = 7, TOP = 65535, PAINTED = 256 * 1024 };
+
+/* The words of a cell: two links, the number, rank and kind, and the six ends of the box. */
+enum { LEFT, RIGHT, NUMBER, RANK_KIND, STAFF_FROM, STAFF_TO, DOOR_FROM, DOOR_TO, QUARTER_FROM, QUARTER_TO, CELL_WORDS };
+
+static uint16_t pool[WORDS], kept[WORDS], list[CELLS], decided[10];
+static uint8_t file[FILE_BYTES], bytes[FILE_BYTES];
+static size_t file_bytes;
+static uint16_t number, point;
+static uint64_t answer;
+
+static void fail(const char *why)
+{
+    fprintf(stderr, "stack: %s\n", why);
+    exit(1);
+}
+
+/* The calls, each with arguments that take it as far as the pool and the file let it go. */
+static void call_start(void) { answer = lg_start(pool, WORDS); }
+static void call_grant(void) { answer = lg_grant(pool, WORDS, number, 255, 1, point, point, point, point, point, point); }
+static void call_revoke(void) { answer = lg_revoke(pool, WORDS, number); }
+static void call_list(void) { answer = lg_list(pool, WORDS, 0, TOP, 0, TOP, 0, TOP, list, CELLS); }
+static void call_decide(void) { answer = lg_decide(pool, WORDS, point, point, point, decided); }
+static void call_count(void) { answer = lg_count(pool, WORDS); }
+static void call_write(void) { answer = lg_write(pool, WORDS, 0, TOP, bytes, FILE_BYTES); }
+static void call_load(void) { answer = lg_load(pool, WORDS, file, file_bytes); }
+static void call_match(void) { answer = lg_match(pool, WORDS, file, file_bytes); }
+static void call_block(void) { answer = lg_block(file, file_bytes, 67); }
+static void call_part(void) { answer = lg_block_part(file, file_bytes, 67); }
+
+static struct {
+    const char *name;
+    void (*call)(void);
+    size_t most;
+    unsigned made, refused;
+} calls[] = {
+    {"lg_start", call_start, 0, 0, 0},   {"lg_grant", call_grant, 0, 0, 0},     {"lg_revoke", call_revoke, 0, 0, 0},
+    {"lg_list", call_list, 0, 0, 0},     {"lg_decide", call_decide, 0, 0, 0},   {"lg_count", call_count, 0, 0, 0},
+    {"lg_write", call_write, 0, 0, 0},   {"lg_load", call_load, 0, 0, 0},       {"lg_match", call_match, 0, 0, 0},
+    {"lg_block", call_block, 0, 0, 0},   {"lg_block_part", call_part, 0, 0, 0},
+};
+enum { CALLS = sizeof calls / sizeof *calls };
+
+static _Alignas(64) uint8_t painted[PAINTED];
+static ucontext_t here, there;
+static void (*call)(void);
+static uint8_t *top;
+
+static void on_painted(void)
+{
+    top = __builtin_frame_address(0);
+    call();
+}
+
+/* How many bytes below the caller's frame the call changes, of memory painted in one colour. */
+static size_t depth(uint8_t colour)
+{
+    memset(painted, colour, PAINTED);
+    if (getcontext(&there) != 0)
+        fail("no context");
+    there.uc_stack.ss_sp = painted;
+    there.uc_stack.ss_size = PAINTED;
+    there.uc_link = &here;
+    makecontext(&there, on_painted, 0);
+    if (swapcontext(&here, &there) != 0)
+        fail("no context");
+    size_t untouched = 0;
+    while (painted[untouched] == colour)
+        untouched++;
+    if (untouched == 0)
+        fail("a call needs more than is painted");
+    return (size_t)(top - (painted + untouched));
+}
+
+/* Makes every call on the pool, each on the pool as it was, in two colours: what is stored may be one of them. */
+static void measure(void)
+{
+    memcpy(kept, pool, sizeof pool);
+    for (size_t i = 0; i < CALLS; i++)
+        for (int colour = 0x5A; colour <= 0xA5; colour += 0x4B) {
+            call = calls[i].call;
+            size_t needs = depth((uint8_t)colour);
+            if (calls[i].most < needs)
+                calls[i].most = needs;
+            calls[i].made++;
+            calls[i].refused += LG_FAULT(answer) != 0;
+            memcpy(pool, kept, sizeof pool);
+        }
+}
+
+static uint32_t seed = 1;
+
+static uint16_t any(void)
+{
+    seed = seed * 1664525u + 1013904223u;
+    return (uint16_t)(seed >> 16);
+}
+
+static void add(uint16_t n, const uint16_t box[6])
+{
+    if (lg_grant(pool, WORDS, n, (uint8_t)any(), any() & 1, box[0], box[1], box[2], box[3], box[4], box[5]) != 0)
+        fail("a grant was refused");
+}
+
+/* Fills the pool with grants of boxes at random, from a number on. */
+static void fill_from(uint16_t n)
+{
+    for (; LG_B(lg_count(pool, WORDS)) != 0; n++) {
+        uint16_t box[6];
+        for (int i = 0; i < 6; i += 2) {
+            uint16_t a = any(), b = any();
+            box[i] = a < b ? a : b;
+            box[i + 1] = a < b ? b : a;
+        }
+        add(n, box);
+    }
+}
+
+static void make_spread(void)
+{
+    lg_start(pool, WORDS);
+    fill_from(1);
+}
+
+/* The deepest tree that calls make: grants of one box, and numbers of which each shares more leading bits with 65,535. Seven hang
+ * between two levels that halve the number; the last eight numbers share 13 bits and more. */
+static void make_deep(void)
+{
+    const uint16_t box[6] = {TOP, TOP, TOP, TOP, TOP, TOP};
+    lg_start(pool, WORDS);
+    for (int bits = 0; bits < 13; bits++)
+        for (uint16_t i = 0; i < 7; i++)
+            add((uint16_t)(TOP - (0x8000u >> bits) - i), box);
+    for (uint16_t n = TOP - 7; n < TOP; n++)
+        add(n, box);
+    fill_from(1);
+}
+
+static uint16_t *cell(unsigned k)
+{
+    return pool + 3 + CELL_WORDS * (k - 1);
+}
+
+/* Whether the way to a point, and to a number, goes right at a level. */
+static int goes_right(unsigned level)
+{
+    uint16_t coordinate = level % AXES == AXES - 1 ? number : point;
+    return coordinate >> (15 - level / AXES) & 1;
+}
+
+/* A scrambled pool: cells 1 to 113 hang below each other on the way to the point and the number, the last at level 112; the other
+ * cells hang where the way does not go, one below the other too. All have the point; their numbers are equal or fall. */
+static void make_scrambled(int equal)
+{
+    memset(pool, 0, sizeof pool);
+    pool[0] = CELLS;
+    pool[1] = 1;
+    for (unsigned k = 1; k <= CELLS; k++) {
+        uint16_t *words = cell(k);
+        for (int i = STAFF_FROM; i < CELL_WORDS; i++)
+            words[i] = point;
+        words[NUMBER] = equal ? number : (uint16_t)(30000 - k);
+        words[RANK_KIND] = any() & 511;
+    }
+    for (unsigned level = 0; level < LEVELS; level++)
+        cell(level + 1)[goes_right(level) ? RIGHT : LEFT] = (uint16_t)(level + 2);
+    unsigned next = LEVELS + 2;
+    for (unsigned level = 0; level < LEVELS; level++) {
+        uint16_t *link = &cell(level + 1)[goes_right(level) ? LEFT : RIGHT];
+        for (unsigned below = level + 1; below <= LEVELS && next <= CELLS; below++) {
+            *link = (uint16_t)next;
+            link = &cell(next++)[below & 1 ? LEFT : RIGHT];
+        }
+    }
+}
+
+/* Every call on scrambled pools along the way to a point and a number: whole, where the number is the deepest cell's or none's, and
+ * with a link at level 112. */
+static void measure_scrambled(uint16_t to_point, uint16_t to_number)
+{
+    point = to_point;
+    number = to_number;
+    for (int equal = 0; equal < 2; equal++) {
+        make_scrambled(equal);
+        if (lg_count(pool, WORDS) != (uint64_t)CELLS << 8)
+            fail("a scrambled pool has not all cells on it");
+        measure();
+        make_scrambled(0);
+        cell(LEVELS + 1)[NUMBER] = number;
+        if (equal)
+            cell(LEVELS + 1)[LEFT] = 1;
+        measure();
+    }
+}
+
+int main(void)
+{
+    make_spread();
+    file_bytes = LG_B(lg_write(pool, WORDS, 0, TOP, file, FILE_BYTES));
+    if (file_bytes != FILE_BYTES)
+        fail("the file of a full pool is not 68 blocks");
+    number = 1;
+    measure();
+    make_deep();
+    number = TOP;
+    point = TOP;
+    measure();
+    lg_revoke(pool, WORDS, 1);
+    measure();
+    measure_scrambled(TOP, TOP);
+    measure_scrambled(0, 1);
+    file[FILE_BYTES - 1] ^= 1;
+    measure();
+
+    int status = 0;
+    for (size_t i = 0; i < CALLS; i++) {
+        int more = calls[i].most > LG_STACK_BYTES;
+        printf("%-14s %6zu bytes at most in %u calls, %u of them refused%s\n", calls[i].name, calls[i].most, calls[i].made, calls[i].refused,
+               more ? ": more than LG_STACK_BYTES" : "");
+        status |= more;
+    }
+    return status;
+}
