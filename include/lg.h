@@ -94,7 +94,8 @@ uint64_t lg_write(const uint16_t *pool, size_t pool_words, uint16_t door_from, u
 uint64_t lg_load(uint16_t *pool, size_t pool_words, const uint8_t *file, size_t file_bytes);
 
 /* Holds the pool's live grants that touch the file's doors against the file.
- * Accepted: a = 0 where they are equal, else the lowest grant number at which they differ: absent from one, or unequal.
+ * Accepted: a = 0 where they are equal, else the lowest grant number at which they differ: absent from one, or unequal. On a pool that no
+ * calls made, a = 0 may also stand for a cell with number 0, which no file holds.
  * Refuses 1, then 10, then for each block rising 12, 11 and 13 (b = block), then 9. Leaves: everything as it was. */
 uint64_t lg_match(const uint16_t *pool, size_t pool_words, const uint8_t *file, size_t file_bytes);
 
