@@ -4,9 +4,10 @@ use crate::common::say_quarter;
 use crate::table::say_grant;
 use crate::table::say_heads;
 use calendar::Base;
-use console::output::end;
-use console::output::say;
-use console::output::say_number;
+use console::output::Stream;
+use console::output::answers;
+use console::output::put;
+use console::output::put_number;
 use model::Decision;
 use model::Grant;
 use panel::rows::ROW_BYTES;
@@ -14,40 +15,27 @@ use panel::rows::times_row;
 use queries::decide::decide;
 
 // The whole grant that decides.
-fn say_deciding(base: Base, g: Grant) {
-    say_number(g.number as usize);
-    say(b"\n");
-    say_heads();
-    say_grant(g);
-    let mut out = [0u8; ROW_BYTES];
-    let n = times_row(g, base, &mut out);
-    say(&out[..n]);
-    end(b"\n");
+fn say_deciding(out: Stream, base: Base, g: Grant) -> Stream {
+    let mut times = [0u8; ROW_BYTES];
+    let n = times_row(g, base, &mut times);
+    let numbered = put_number(out, g.number as usize);
+    let headed = say_heads(put(numbered, b"\n"));
+    let shown = say_grant(headed, g);
+    put(put(shown, &times[..n]), b"\n")
 }
 
-fn say_decision(base: Base, decision: Decision) {
+fn say_decision(out: Stream, base: Base, decision: Decision) -> Stream {
     match decision {
-        Decision::Opens(g) => {
-            say(b": OPENS, by grant ");
-            say_deciding(base, g);
-        }
-        Decision::Barred(g) => {
-            say(b": BARRED, by grant ");
-            say_deciding(base, g);
-        }
-        Decision::None => end(b": NO GRANT, do not open\n\n"),
-        Decision::Refused(f) => {
-            say(b"\n");
-            say_fault(f);
-        }
+        Decision::Opens(g) => say_deciding(put(out, b": OPENS, by grant "), base, g),
+        Decision::Barred(g) => say_deciding(put(out, b": BARRED, by grant "), base, g),
+        Decision::None => put(out, b": NO GRANT, do not open\n\n"),
+        Decision::Refused(f) => say_fault(put(out, b"\n"), f),
     }
 }
 
-pub fn say_may(pool: &[u16], base: Base, staff: u16, door: u16, quarter: u16) {
-    say(b"staff ");
-    say_number(staff as usize);
-    say(b", door ");
-    say_number(door as usize);
-    say_quarter(base, quarter);
-    say_decision(base, decide(pool, staff, door, quarter));
+pub fn say_may(pool: &[u16], base: Base, staff: u16, door: u16, quarter: u16) -> Stream {
+    let who = put_number(put(answers(), b"staff "), staff as usize);
+    let where_to = put_number(put(who, b", door "), door as usize);
+    let asked = say_quarter(where_to, base, quarter);
+    say_decision(asked, base, decide(pool, staff, door, quarter))
 }
