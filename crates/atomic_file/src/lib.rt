@@ -3,7 +3,11 @@
 ghost use mathlib.Core.Path.{_≡_};
 ghost use lib.ListN.{take};
 
+pub mod beside;
+mod folder;
+pub mod known;
 pub mod reading;
+pub mod target;
 pub mod writing;
 
 // The bytes read, at the start of the lent ones; or the system's error number.
@@ -12,9 +16,11 @@ pub enum Read {
     Failed(i32),
 }
 
-// Written and in place; or the system's error number, and nothing changed.
+// Written and in place; or the system's error number: of a file that is in place, but may be the old one again after a power cut; of one that
+// was not written, and nothing changed.
 pub enum Stored {
     Done,
+    Unsynced(i32),
     Failed(i32),
 }
 

@@ -1,32 +1,40 @@
 // Puts a file in place of another, or where there was none.
-ghost use mathlib.Core.Path.{_≡_};
-ghost use lib.ListN.{take};
-ghost use Rattle.text.specs.Put.{Counts};
-ghost use Rattle.atomic_file.specs.Beside.{besideName};
 use crate::Stored;
-use text::put::put_text;
+use crate::beside::Made;
+use crate::beside::beside;
+use crate::beside::make;
+use crate::folder::sync_folder;
+use crate::known::Facts;
 
 // Readable by all, to be changed by its owner alone.
 const MODE: u32 = 0o644;
 
-// The name of the new file, before the system makes its end one that no file has: empty where there is no room for it.
-fn beside(path: &[u8], name: &mut [u8; 4096]) -> usize
-    ensures { λ r. ⌜ take r (now (name .exit)) ≡ besideName (now (path .entry)) ⌝ }
-    ensures { λ r. ⌜ Counts r (now (name .exit)) ⌝ }
-{
-    if 4000 < path.len() {
-        return 0;
-    }
-    let end = put_text(name, 0, path);
-    put_text(name, end, b".XXXXXX")
+// Whose the new file is, and its mode: as any new file, or as the file was that it replaces.
+pub enum Like {
+    New,
+    Old(Facts),
 }
 
-// Writes the bytes, and waits until they have reached the disk.
-fn fill(fd: i32, bytes: &[u8]) -> Stored {
-    if !io::write_all(fd, bytes) {
+fn keep(fd: i32, old: Facts) -> bool {
+    if libc::fchown(fd, old.owner, old.group) != 0 {
+        return false;
+    }
+    libc::fchmod(fd, old.mode % 4096) == 0
+}
+
+fn set_mode(fd: i32, like: Like) -> bool {
+    match like {
+        Like::New => libc::fchmod(fd, MODE) == 0,
+        Like::Old(old) => keep(fd, old),
+    }
+}
+
+// Writes the bytes into a file that has its mode already, and waits until they have reached the disk.
+fn fill(fd: i32, like: Like, bytes: &[u8]) -> Stored {
+    if !set_mode(fd, like) {
         return Stored::Failed(os::errno());
     }
-    if libc::fchmod(fd, MODE) != 0 {
+    if !io::write_all(fd, bytes) {
         return Stored::Failed(os::errno());
     }
     if libc::fsync(fd) != 0 {
@@ -52,24 +60,21 @@ fn place(fd: i32, filled: Stored, name: &[u8], path: &[u8]) -> Stored {
         os::unlink(name);
         return Stored::Failed(error);
     }
-    Stored::Done
+    sync_folder(path)
 }
 
-// Makes the new file under its name, fills it and puts it in place.
-fn store(path: &[u8], bytes: &[u8], name: &mut [u8]) -> Stored {
-    let fd = os::create_temp(name);
-    if fd < 0 {
-        return Stored::Failed(os::errno());
-    }
-    let filled = fill(fd, bytes);
-    place(fd, filled, name, path)
-}
-
-pub fn replace(path: &[u8], bytes: &[u8]) -> Stored {
-    let mut name = [0u8; 4096];
-    let length = beside(path, &mut name);
-    if length == 0 {
+pub fn replace(path: &[u8], like: Like, bytes: &[u8]) -> Stored {
+    if 4000 < path.len() {
         return Stored::Failed(libc::ENAMETOOLONG);
     }
-    store(path, bytes, &mut name[..length])
+    let made = make(path);
+    match made {
+        Made::As { fd, digit } => {
+            let filled = fill(fd, like, bytes);
+            let mut name = [0u8; 4096];
+            let length = beside(path, digit, &mut name);
+            place(fd, filled, &name[..length], path)
+        }
+        Made::Failed(error) => Stored::Failed(error),
+    }
 }

@@ -3,6 +3,7 @@
 --   leapYear y            every fourth year, but of the hundredth ones every fourth
 --   monthDays y m         the days of a month
 --   isDate y m d          a day of the years 1 to lastYear: a base day that may be typed in
+--   isBase d              a day that quarters can be counted from: the last of them ends in a year up to lastYear
 --   nextDay d             the day after
 --   dateAfter d n         the day n days after
 --   dayOf q, minutesOf q  the days since the base day, and the minutes since midnight
@@ -11,6 +12,7 @@
 use Prim.Native.Nat.{ℕ, zero, suc, _+_, _*_, _/_, _%_}
 use mathlib.Core.Bool.{Bool, cond, not, _&&_, _||_}
 use lib.Dec.{leb, ltb, eqb}
+use Rattle.model.specs.Values.{wordValues}
 use Rattle.calendar.specs.declared.Date.{Date}
 
 abbrev pub lastYear : ℕ
@@ -47,3 +49,6 @@ hourOf q = minutesOf q / 60
 
 abbrev pub minuteOf : ℕ → ℕ
 minuteOf q = minutesOf q % 60
+
+unfoldable pub isBase : Date → Bool
+isBase d = leb (d .year) lastYear && leb (dateAfter d (dayOf wordValues) .year) lastYear

@@ -1,9 +1,9 @@
 // Days of the Gregorian calendar, and the day and time of a quarter (specs/Calendar).
-// `is_date` is what a base day that is typed in must pass; the other functions take any date.
+// `is_date` and `is_base` are what a base day that is typed in must pass; the other functions take any date.
 ghost use mathlib.Core.Path.{_≡_};
 ghost use Prim.Native.Nat.{_+_, _<_};
 ghost use Rattle.model.specs.Values.{wordValues};
-ghost use Rattle.calendar.specs.Calendar.{leapYear, monthDays, isDate, nextDay, dateAfter, dayOf, hourOf, minuteOf};
+ghost use Rattle.calendar.specs.Calendar.{leapYear, monthDays, isDate, isBase, nextDay, dateAfter, dayOf, hourOf, minuteOf};
 use crate::Date;
 
 fn is_leap(year: u16) -> bool
@@ -120,4 +120,15 @@ pub fn minute_of(quarter: usize) -> usize
     ensures { λ r. ⌜ r ≡ minuteOf quarter ⌝ }
 {
     quarter % 96 * 15 % 60
+}
+
+// Whether quarters can be counted from a day: the last one ends in a year of four digits.
+pub fn is_base(d: Date) -> bool
+    ensures { λ r. ⌜ r ≡ isBase d ⌝ }
+{
+    if 9999 < d.year {
+        return false;
+    }
+    let last = date_after(d, day_of(65536));
+    last.year <= 9999
 }

@@ -1,25 +1,32 @@
-// What several screens of the panel say.
+// What several answers say.
 use crate::messages::put_refusal;
 use calendar::Base;
-use console::output::end;
-use console::output::say;
-use console::output::say_number;
-use libc::STDOUT_FILENO;
+use console::output::Stream;
+use console::output::put;
+use console::output::put_number;
 use model::Fault;
 use panel::rows::ROW_BYTES;
 use panel::rows::moment_text;
 
 // The quarter's number, with its day and time beside it.
-pub fn say_quarter(base: Base, quarter: u16) {
-    say(b", quarter ");
-    say_number(quarter as usize);
-    let mut out = [0u8; ROW_BYTES];
-    let n = moment_text(base, quarter, &mut out);
-    say(&out[..n]);
+pub fn say_quarter(out: Stream, base: Base, quarter: u16) -> Stream {
+    let mut text = [0u8; ROW_BYTES];
+    let n = moment_text(base, quarter, &mut text);
+    let named = put(out, b", quarter ");
+    let numbered = put_number(named, quarter as usize);
+    put(numbered, &text[..n])
 }
 
 // A refusal as an answer.
-pub fn say_fault(f: Fault) {
-    put_refusal(STDOUT_FILENO, f);
-    end(b"\n");
+pub fn say_fault(out: Stream, f: Fault) -> Stream {
+    put(put_refusal(out, f), b"\n")
+}
+
+// So many grants.
+pub fn say_grants(out: Stream, total: usize) -> Stream {
+    let counted = put_number(out, total);
+    if total == 1 {
+        return put(counted, b" grant");
+    }
+    put(counted, b" grants")
 }

@@ -1,57 +1,53 @@
 // What is wrong in a file, in words for a clerk: document 01's number of the fault, what is wrong and where, and what to do. A line.
-use console::output::end;
-use console::output::say;
-use console::output::say_number;
+use crate::common::say_grants;
+use console::output::Stream;
+use console::output::put;
+use console::output::put_number;
 use grants_file::Defect;
 use grants_file::defects::outcome_of;
 use model::Outcome;
 use model::faults::fault_number;
 
-fn say_block(block: usize, reason: &[u8]) {
-    say(b"block ");
-    say_number(block);
-    end(reason);
+fn say_block(out: Stream, block: usize, reason: &[u8]) -> Stream {
+    let numbered = put_number(put(out, b"block "), block);
+    put(numbered, reason)
 }
 
 // Record `place` of a block, with its grant's number.
-fn say_record(block: usize, place: usize, number: u16, reason: &[u8]) {
-    say(b"block ");
-    say_number(block);
-    say(b", record ");
-    say_number(place);
-    say(b", grant ");
-    say_number(number as usize);
-    end(reason);
+fn say_record(out: Stream, block: usize, place: usize, number: u16, reason: &[u8]) -> Stream {
+    let numbered = put_number(put(out, b"block "), block);
+    let placed = put_number(put(numbered, b", record "), place);
+    let named = put_number(put(placed, b", grant "), number as usize);
+    put(named, reason)
 }
 
-fn say_total(total: usize) {
-    say(b"block 0 counts ");
-    say_number(total);
+fn say_total(out: Stream, total: usize) -> Stream {
+    say_grants(put(out, b"block 0 counts "), total)
 }
 
-fn say_block_count(total: usize, blocks: usize) {
-    say_total(total);
-    say(b" grants, but the file has ");
-    say_number(blocks);
-    end(b" blocks, more or fewer than they take; ask for it again\n");
+fn say_block_count(out: Stream, total: usize, blocks: usize) -> Stream {
+    let counted = put(say_total(out, total), b", but the file has ");
+    put(
+        put_number(counted, blocks),
+        b" blocks, more or fewer than they take; ask for it again\n",
+    )
 }
 
-fn say_door_order(from: u16, to: u16) {
-    say(b"block 0 has its first door, ");
-    say_number(from as usize);
-    say(b", above its last, ");
-    say_number(to as usize);
-    end(b"; ask for the file again\n");
+fn say_door_order(out: Stream, from: u16, to: u16) -> Stream {
+    let first = put_number(put(out, b"block 0 has its first door, "), from as usize);
+    let last = put_number(put(first, b", above its last, "), to as usize);
+    put(last, b"; ask for the file again\n")
 }
 
 // Fault 13's causes.
-fn say_record_defect(defect: Defect) {
+fn say_record_defect(out: Stream, defect: Defect) -> Stream {
     match defect {
         Defect::NumberOrder {
             block,
             place,
             number,
         } => say_record(
+            out,
             block,
             place,
             number,
@@ -62,6 +58,7 @@ fn say_record_defect(defect: Defect) {
             place,
             number,
         } => say_record(
+            out,
             block,
             place,
             number,
@@ -72,6 +69,7 @@ fn say_record_defect(defect: Defect) {
             place,
             number,
         } => say_record(
+            out,
             block,
             place,
             number,
@@ -82,69 +80,73 @@ fn say_record_defect(defect: Defect) {
             place,
             number,
         } => say_record(
+            out,
             block,
             place,
             number,
             b": its doors don't touch the file's doors; ask for the file again\n",
         ),
-        _ => end(b"something else is wrong; ask for the file again\n"),
+        _ => put(out, b"something else is wrong; ask for the file again\n"),
     }
 }
 
 // Fault 11's causes in block 0 alone.
-fn say_header_defect(defect: Defect) {
+fn say_header_defect(out: Stream, defect: Defect) -> Stream {
     match defect {
         Defect::TooManyGrants { total } => {
-            say_total(total);
-            end(b" grants, more than the 2048 that a file may hold; ask for the file again\n");
+            put(
+                say_total(out, total),
+                b", more than the 2048 that a file may hold; ask for the file again\n",
+            )
         }
-        Defect::BlockCount { total, blocks } => say_block_count(total, blocks),
-        Defect::DoorOrder { from, to } => say_door_order(from, to),
-        _ => say_record_defect(defect),
+        Defect::BlockCount { total, blocks } => say_block_count(out, total, blocks),
+        Defect::DoorOrder { from, to } => say_door_order(out, from, to),
+        _ => say_record_defect(out, defect),
     }
 }
 
 // What is wrong and where, and what to do.
-fn say_cause(defect: Defect) {
+fn say_cause(out: Stream, defect: Defect) -> Stream {
     match defect {
-        Defect::Length => {
-            end(b"the file is not 1 to 68 whole blocks of 512 bytes; ask for it again\n");
-        }
-        Defect::Checksum { block } => {
-            say_block(
-                block,
-                b" is damaged, its check is wrong; ask for the file again\n",
-            );
-        }
+        Defect::Length => put(
+            out,
+            b"the file is not 1 to 68 whole blocks of 512 bytes; ask for it again\n",
+        ),
+        Defect::Checksum { block } => say_block(
+            out,
+            block,
+            b" is damaged, its check is wrong; ask for the file again\n",
+        ),
         Defect::Mark { block } => say_block(
+            out,
             block,
             b" doesn't begin with LGF1, so this is no grants file; ask for the right one\n",
         ),
         Defect::BlockNumber { block } => say_block(
+            out,
             block,
             b" carries another block's number; ask for the file again\n",
         ),
         Defect::RecordCount { block } => say_block(
+            out,
             block,
             b" counts more or fewer records than it should hold; ask for the file again\n",
         ),
         Defect::Padding { block } => say_block(
+            out,
             block,
             b" isn't zero where it should be empty; ask for the file again\n",
         ),
-        _ => say_header_defect(defect),
+        _ => say_header_defect(out, defect),
     }
 }
 
 // The line of a defect, or of a file in which nothing is wrong.
-pub fn say_defect(defect: Defect) {
+pub fn say_defect(out: Stream, defect: Defect) -> Stream {
     let outcome = outcome_of(defect);
     let Outcome::Refused(fault) = outcome else {
-        end(b"sound\n");
-        return;
+        return put(out, b"sound\n");
     };
-    say(b"refused ");
-    say_number(fault_number(fault));
-    say(b": ");
-    say_cause(defect);
+    let numbered = put_number(put(out, b"refused "), fault_number(fault));
+    say_cause(put(numbered, b": "), defect)
 }

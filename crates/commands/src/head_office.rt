@@ -1,12 +1,17 @@
 // Head office's grants: a journal of slips, replayed into a fresh index.
 use crate::messages::put_refusal;
+use console::arguments::name_at;
 use console::lines::Line;
+use console::lines::Longer;
 use console::lines::fresh;
 use console::lines::next_line;
+use console::names::warn_name;
+use console::output::put;
 use console::output::warn;
 use console::output::warn_number;
 use console::output::warn_reason;
-use libc::STDERR_FILENO;
+use console::output::warnings;
+use console::status::Ending;
 use model::Fault;
 use model::Outcome;
 use slip_session::LONGEST;
@@ -17,17 +22,35 @@ use slip_session::journal::replay_line;
 const HELD: usize = LONGEST + 1;
 
 pub fn warn_refusal(f: Fault) {
-    put_refusal(STDERR_FILENO, f);
-    warn(b"\n");
+    put(put_refusal(warnings(), f), b"\n");
 }
 
 // Where in a journal something is wrong.
 fn warn_place(path: &[u8], number: u64) {
     warn(b"grants: ");
-    warn(path);
+    warn_name(path);
     warn(b", line ");
     warn_number(number);
     warn(b": ");
+}
+
+// Whether a line ends as editors on Windows end lines.
+fn has_return(line: &[u8]) -> bool {
+    if line.len() == 0 {
+        return false;
+    }
+    line[line.len() - 1] == b'\r'
+}
+
+// Why a line is no slip.
+fn warn_no_slip(line: &[u8]) {
+    if has_return(line) {
+        warn(
+            b"the line ends in CR LF, as Windows editors end lines: save the journal with LF alone\n",
+        );
+        return;
+    }
+    warn(b"no slip: write G and nine numbers, or R and one, with one blank between them\n");
 }
 
 // Whether a line was replayed; else says where the journal stops, and why.
@@ -51,68 +74,100 @@ fn is_replayed(pool: &mut [u16], path: &[u8], line: &[u8], number: u64) -> bool 
         }
         Entry::NotASlip => {
             warn_place(path, number);
-            warn(b"no slip: write G and nine numbers, or R and one, with one blank between them\n");
+            warn_no_slip(line);
             false
         }
     }
 }
 
-fn warn_unread(path: &[u8], error: i32) {
+pub fn warn_unread(path: &[u8], error: i32) {
     warn(b"grants: ");
-    warn(path);
+    warn_name(path);
     warn(b" can't be read: ");
     warn_reason(error);
 }
 
-// Whether a journal that has no more lines has been read to its end.
-fn is_at_end(path: &[u8], got: Line) -> bool {
+// How a journal ends that gives no more lines.
+fn at_end(path: &[u8], number: u64, got: Line) -> Ending {
     match got {
-        Line::Held(_) => false,
-        Line::End => true,
+        Line::Held(_) => Ending::Failed,
+        Line::End => Ending::Done,
         Line::Failed => {
             warn_unread(path, os::errno());
-            false
+            Ending::Failed
+        }
+        Line::Long => {
+            warn_place(path, number);
+            warn(b"the line is longer than any slip, 4096 bytes: is this a journal?\n");
+            Ending::No
         }
     }
 }
 
+// A line that the journal breaks off in, which may be the beginning of another slip.
+fn refuse_unended(path: &[u8], number: u64) -> Ending {
+    warn_place(path, number);
+    warn(b"the journal breaks off in this line: if it is whole, end it with a newline\n");
+    Ending::No
+}
+
 // Replays the lines of an open journal, up to the first that is refused. The number of a line is what a proved loop ends by.
-fn replay_lines(fd: i32, path: &[u8], pool: &mut [u16], input: &mut [u8], line: &mut [u8]) -> bool {
+fn replay_lines(
+    fd: i32,
+    path: &[u8],
+    pool: &mut [u16],
+    input: &mut [u8],
+    line: &mut [u8],
+) -> Ending {
     let mut cursor = fresh();
     let mut number: u64 = 1;
     while number < u64::MAX {
-        let pulled = next_line(fd, input, cursor, line);
+        let pulled = next_line(fd, input, cursor, line, Longer::GivenUp);
         let got = pulled.line;
         let Line::Held(n) = got else {
-            return is_at_end(path, got);
+            return at_end(path, number, got);
         };
+        if !pulled.ended {
+            return refuse_unended(path, number);
+        }
         if !is_replayed(pool, path, &line[..n], number) {
-            return false;
+            return Ending::No;
         }
         cursor = pulled.cursor;
         number += 1;
     }
-    false
+    Ending::Failed
 }
 
-// Starts the pool anew and replays the journal: whether all of it was.
-pub fn replay(path: &[u8], pool: &mut [u16]) -> bool {
-    index::start::start(pool);
+// Opens a journal, or says why it can't be: its descriptor, or -1.
+pub fn open(path: &[u8]) -> i32 {
     let fd = os::open_read(path);
     if fd < 0 {
         warn_unread(path, os::errno());
-        return false;
     }
+    fd
+}
+
+// Starts the pool anew, replays an open journal and closes it: done where all of it was.
+pub fn replay(fd: i32, path: &[u8], pool: &mut [u16]) -> Ending {
+    index::start::start(pool);
     let mut input = [0u8; 4096];
     let mut line = [0u8; HELD];
-    let whole = replay_lines(fd, path, pool, &mut input, &mut line);
+    let replayed = replay_lines(fd, path, pool, &mut input, &mut line);
     libc::close(fd);
-    whole
+    replayed
 }
 
 // The same for the journal that the second argument names.
-pub fn replay_named(pool: &mut [u16]) -> bool {
+pub fn replay_named(pool: &mut [u16]) -> Ending {
     let mut path = io::buffer();
-    let length = os::arg(2, &mut path);
-    replay(&path[..length], pool)
+    let length = name_at(b"JOURNAL", 2, &mut path);
+    if length == 0 {
+        return Ending::Failed;
+    }
+    let fd = open(&path[..length]);
+    if fd < 0 {
+        return Ending::Failed;
+    }
+    replay(fd, &path[..length], pool)
 }

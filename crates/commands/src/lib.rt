@@ -9,6 +9,7 @@ mod may;
 mod messages;
 mod pages;
 pub mod panel_loop;
+mod replaced;
 pub mod report;
 mod table;
 mod who;

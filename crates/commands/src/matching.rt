@@ -1,14 +1,17 @@
 // Holds head office's grants against a bank's file.
 use crate::head_office::replay_named;
 use crate::head_office::warn_refusal;
-use crate::report::say_verdict;
+use crate::report::refuse;
 use crate::table::say_grant;
 use crate::table::say_heads;
 use atomic_file::first;
-use console::output::end;
-use console::output::say;
-use console::output::say_number;
+use console::output::Stream;
+use console::output::answers;
+use console::output::put;
+use console::output::put_number;
 use console::output::warn;
+use console::status::Ending;
+use console::status::answered;
 use file_calls::matching::match_file;
 use file_calls::write::write;
 use file_contents::Doors;
@@ -21,55 +24,56 @@ use model::Written;
 use pool::layout::MAX_WORDS;
 
 // One side's grant of the number, whole, or that it has none.
-fn say_side(side: &[u8], entry: Entry) {
-    say(side);
+fn say_side(out: Stream, side: &[u8], entry: Entry) -> Stream {
+    let named = put(out, side);
     match entry {
-        Entry::Is(g) => {
-            say(b"\n");
-            say_heads();
-            say_grant(g);
-        }
-        Entry::Absent => end(b" absent\n"),
+        Entry::Is(g) => say_grant(say_heads(put(named, b"\n")), g),
+        Entry::Absent => put(named, b" absent\n"),
     }
 }
 
 // Both sides at a number: head office's grants for the file's doors are those that it would write for them.
-fn say_sides(pool: &[u16], file: &[u8], number: u16) {
+fn say_sides(out: Stream, pool: &[u16], file: &[u8], number: u16) -> Stream {
     let doors = doors_of(file);
     let Doors::Are { from, to } = doors else {
-        return;
+        return out;
     };
     let mut bytes = [0u8; MAX_BYTES];
     let written = write(pool, from, to, &mut bytes);
     let Written::Length(n) = written else {
-        return;
+        return out;
     };
-    say_side(b"head office:", numbered(first(&bytes, n), number));
-    say_side(b"the bank's file:", numbered(file, number));
+    let office = say_side(out, b"head office:", numbered(first(&bytes, n), number));
+    say_side(office, b"the bank's file:", numbered(file, number))
 }
 
-pub fn match_bank(file: &[u8]) {
-    let mut pool = [0u16; MAX_WORDS];
-    if !replay_named(&mut pool) {
-        warn(b"grants: nothing was held against the file\n");
-        return;
-    }
-    let matched = match_file(&pool, file);
+// The answer of match, and the refusal of a pool or a file.
+fn say_matched(pool: &[u16], file: &[u8], matched: Matched) -> Ending {
     match matched {
-        Matched::Equal => end(b"equal\n"),
+        Matched::Equal => answered(put(answers(), b"equal\n"), Ending::Done),
         Matched::Differs(number) => {
-            say(b"differs, first at grant ");
-            say_number(number as usize);
-            say(b"\n");
-            say_sides(&pool, file, number);
+            let told = put_number(put(answers(), b"differs, first at grant "), number as usize);
+            let out = say_sides(put(told, b"\n"), pool, file, number);
+            answered(out, Ending::No)
         }
         Matched::Refused(f) => {
-            let Doors::Are { .. } = doors_of(file) else {
-                say_verdict(file);
-                return;
+            let doors = doors_of(file);
+            let Doors::Are { .. } = doors else {
+                return refuse(file);
             };
             warn(b"grants: ");
             warn_refusal(f);
+            Ending::No
         }
     }
+}
+
+pub fn match_bank(file: &[u8]) -> Ending {
+    let mut pool = [0u16; MAX_WORDS];
+    let replayed = replay_named(&mut pool);
+    let Ending::Done = replayed else {
+        warn(b"grants: nothing was held against the file\n");
+        return replayed;
+    };
+    say_matched(&pool, file, match_file(&pool, file))
 }

@@ -1,81 +1,81 @@
 // A fault in words: its number, what is wrong, and what to do about it. The number is proved to be the fault's; the sentences are prose.
+use console::output::Stream;
 use console::output::put;
 use console::output::put_number;
 use model::Fault;
 use model::faults::fault_number;
 
 // A number between two pieces of text.
-fn put_valued(fd: i32, before: &[u8], n: usize, after: &[u8]) {
-    put(fd, before);
-    put_number(fd, n);
-    put(fd, after);
+fn put_valued(to: Stream, before: &[u8], n: usize, after: &[u8]) -> Stream {
+    let numbered = put_number(put(to, before), n);
+    put(numbered, after)
 }
 
 // A sentence for each fault, so that a new fault can't be passed over.
-fn put_fault(fd: i32, f: Fault) {
+fn put_fault(to: Stream, f: Fault) -> Stream {
     match f {
         Fault::BadPool => put(
-            fd,
+            to,
             b"the pool in memory is not an index: load the bank's file again",
         ),
         Fault::Reversed => put(
-            fd,
+            to,
             b"a range starts above its end: put the lower number first",
         ),
         Fault::ZeroNumber => put(
-            fd,
+            to,
             b"0 is not a grant's number: number grants from 1 to 65535",
         ),
         Fault::UnknownKind => put(
-            fd,
+            to,
             b"the kind is neither 0 nor 1: write 0 for bars, 1 for opens",
         ),
         Fault::AlreadyLive => put(
-            fd,
+            to,
             b"a grant has this number already: revoke it first, or take another number",
         ),
         Fault::Full => put(
-            fd,
+            to,
             b"no cell is free: revoke a grant first, or split the bank",
         ),
         Fault::NotLive => put(
-            fd,
+            to,
             b"no grant has this number: list the grants to find the right one",
         ),
         Fault::ListTooShort { needed } => put_valued(
-            fd,
+            to,
             b"the answer has ",
             needed,
             b" grants, more than the list holds: ask about fewer doors or quarters",
         ),
         Fault::BrokenLinks => put(
-            fd,
+            to,
             b"the pool in memory is damaged: load the bank's file again",
         ),
         Fault::BadLength => put(
-            fd,
+            to,
             b"the file is not 1 to 68 whole blocks, or has no such block: ask for the file again",
         ),
         Fault::BadLayout { block } => put_valued(
-            fd,
+            to,
             b"block ",
             block,
             b" is not laid out as a grants file's block: ask for the file again",
         ),
         Fault::BadChecksum { block } => put_valued(
-            fd,
+            to,
             b"block ",
             block,
             b" is damaged: its check is wrong; ask for the file again",
         ),
         Fault::BadRecord { block } => put_valued(
-            fd,
+            to,
             b"block ",
             block,
             b" holds a grant that the file may not hold: ask for the file again",
         ),
         Fault::BufferTooShort { needed } => put_valued(
-            fd,
+            to,
             b"the file takes ",
             needed,
             b" bytes, more than there is room for: cut fewer doors",
@@ -84,9 +84,7 @@ fn put_fault(fd: i32, f: Fault) {
 }
 
 // A refusal as a sentence, without its newline.
-pub fn put_refusal(fd: i32, f: Fault) {
-    put(fd, b"refused ");
-    put_number(fd, fault_number(f));
-    put(fd, b": ");
-    put_fault(fd, f);
+pub fn put_refusal(to: Stream, f: Fault) -> Stream {
+    let numbered = put_number(put(to, b"refused "), fault_number(f));
+    put_fault(put(numbered, b": "), f)
 }

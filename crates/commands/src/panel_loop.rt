@@ -1,20 +1,25 @@
 // The attendant's panel: a bank's file is loaded, and questions that are typed in are answered, one a screenful.
 use crate::may::say_may;
 use crate::pages::say_questions;
+use crate::report::refuse;
 use crate::report::say_contents;
-use crate::report::say_verdict;
 use crate::who::Shown;
 use crate::who::none_shown;
 use crate::who::say_rows;
 use crate::who::say_who;
 use calendar::Base;
+use calendar::days::is_base;
+use console::arguments::given;
 use console::lines::Line;
+use console::lines::Longer;
 use console::lines::fresh;
 use console::lines::next_line;
-use console::output::end;
-use console::output::say;
-use console::output::say_number;
+use console::output::Stream;
+use console::output::answers;
+use console::output::put;
+use console::output::put_number;
 use console::output::warn;
+use console::status::Ending;
 use file_calls::load::load;
 use file_contents::door_range::has_door;
 use libc::STDIN_FILENO;
@@ -25,30 +30,31 @@ use question::Question;
 use question::asking::question_of;
 use question::dates::day_of_text;
 use slip_session::LONGEST;
+use slip_session::program::at_end;
 
 // One byte more than the longest line that is read, so that a longer one is seen to be longer.
 const HELD: usize = LONGEST + 1;
 
 // A bank's file holds every grant for its own doors, and of other doors' grants only some: so it is asked about its own doors alone.
-fn say_foreign(file: &[u8], door: u16) {
-    say(b"door ");
-    say_number(door as usize);
-    say(b" is not of this bank: ask about one of its own\n");
-    say_contents(file);
-    end(b"\n");
+fn say_foreign(file: &[u8], door: u16) -> Stream {
+    let named = put_number(put(answers(), b"door "), door as usize);
+    let told = put(named, b" is not of this bank: ask about one of its own\n");
+    put(say_contents(told, file), b"\n")
 }
 
 // Answers `who`. Gives what has been shown of it.
 fn answer_who(pool: &[u16], file: &[u8], base: Base, door: u16, quarter: u16) -> Shown {
     if !has_door(file, door) {
-        say_foreign(file, door);
-        return none_shown();
+        return none_shown(say_foreign(file, door).whole);
     }
-    say_who(base, door, quarter);
+    if !say_who(base, door, quarter).whole {
+        return none_shown(false);
+    }
     say_rows(
         pool,
         base,
         Shown {
+            whole: true,
             left: true,
             door,
             quarter,
@@ -59,11 +65,9 @@ fn answer_who(pool: &[u16], file: &[u8], base: Base, door: u16, quarter: u16) ->
 
 fn answer_may(pool: &[u16], file: &[u8], base: Base, staff: u16, door: u16, quarter: u16) -> Shown {
     if has_door(file, door) {
-        say_may(pool, base, staff, door, quarter);
-    } else {
-        say_foreign(file, door);
+        return none_shown(say_may(pool, base, staff, door, quarter).whole);
     }
-    none_shown()
+    none_shown(say_foreign(file, door).whole)
 }
 
 // Goes on with the last `who`.
@@ -74,11 +78,20 @@ fn answer_more(pool: &[u16], base: Base, shown: Shown) -> Shown {
     shown
 }
 
+// What has been shown of the last `who`, after an answer of another kind.
+fn kept(out: Stream, shown: Shown) -> Shown {
+    Shown {
+        whole: out.whole,
+        left: shown.left,
+        door: shown.door,
+        quarter: shown.quarter,
+        rows: shown.rows,
+    }
+}
+
 // Says how to ask, and keeps what has been shown.
 fn advise(text: &[u8], shown: Shown) -> Shown {
-    say(text);
-    end(b"\n\n");
-    shown
+    kept(put(put(answers(), text), b"\n\n"), shown)
 }
 
 // Answers a question. Gives what has been shown of the last `who`.
@@ -91,10 +104,7 @@ fn answer(pool: &[u16], file: &[u8], base: Base, asked: Question, shown: Shown) 
             quarter,
         } => answer_may(pool, file, base, staff, door, quarter),
         Question::More => answer_more(pool, base, shown),
-        Question::Help => {
-            say_questions();
-            shown
-        }
+        Question::Help => kept(say_questions(answers()), shown),
         Question::Quit => shown,
         Question::NoBase => advise(
             b"no base day is known: ask by the quarter's number, or start grants panel FILE BASE-DAY",
@@ -119,62 +129,78 @@ fn is_quit(asked: Question) -> bool {
     }
 }
 
-// A mark that a question can be typed, where a person types.
-fn prompt() {
+// A mark that a question can be typed, where a person types: whether it could be written.
+fn prompt() -> bool {
     if libc::isatty(STDIN_FILENO) == 1 {
-        say(b"panel> ");
+        return put(answers(), b"panel> ").whole;
     }
+    true
 }
 
-// Questions until `quit` or the end of the input. A proved loop has to end: it counts its turns down, from a number that no day uses up.
-fn ask(pool: &[u16], file: &[u8], base: Base, input: &mut [u8], line: &mut [u8]) {
+// Questions until `quit` or the end of the input, or an answer that can't be written. A proved loop has to end: it counts its turns down,
+// from a number that no day uses up.
+fn ask(pool: &[u16], file: &[u8], base: Base, input: &mut [u8], line: &mut [u8]) -> Ending {
     let mut cursor = fresh();
-    let mut shown = none_shown();
+    let mut shown = none_shown(true);
     let mut turns = u64::MAX;
     while turns > 0 {
-        prompt();
-        let pulled = next_line(STDIN_FILENO, input, cursor, line);
+        if !prompt() {
+            return Ending::Failed;
+        }
+        let pulled = next_line(STDIN_FILENO, input, cursor, line, Longer::Dropped);
         let got = pulled.line;
         let Line::Held(n) = got else {
-            return;
+            return at_end(got);
         };
         let asked = question_of(base, &line[..n]);
         if is_quit(asked) {
-            return;
+            return Ending::Done;
         }
         shown = answer(pool, file, base, asked, shown);
+        if !shown.whole {
+            return Ending::Failed;
+        }
         cursor = pulled.cursor;
         turns -= 1;
     }
+    Ending::Done
+}
+
+// Says what was loaded, and answers questions about it.
+fn open_panel(pool: &[u16], file: &[u8], base: Base) -> Ending {
+    let loaded = say_contents(put(answers(), b"loaded: "), file);
+    if !say_questions(loaded).whole {
+        return Ending::Failed;
+    }
+    let mut input = [0u8; 4096];
+    let mut line = [0u8; HELD];
+    ask(pool, file, base, &mut input, &mut line)
 }
 
 // Loads the file and answers questions about it.
-fn open(file: &[u8], base: Base) {
+fn open(file: &[u8], base: Base) -> Ending {
     let mut pool = [0u16; MAX_WORDS];
     let loaded = load(&mut pool, file);
     match loaded {
-        Outcome::Done => {
-            say(b"loaded: ");
-            say_contents(file);
-            say_questions();
-            let mut input = [0u8; 4096];
-            let mut line = [0u8; HELD];
-            ask(&pool, file, base, &mut input, &mut line);
-        }
-        Outcome::Refused(_) => say_verdict(file),
+        Outcome::Done => open_panel(&pool, file, base),
+        Outcome::Refused(_) => refuse(file),
     }
 }
 
-pub fn panel(file: &[u8]) {
-    if os::arg_count() < 4 {
-        open(file, Base::Unknown);
-        return;
+pub fn panel(file: &[u8]) -> Ending {
+    if given() < 3 {
+        return open(file, Base::Unknown);
     }
     let mut argument = io::buffer();
     let length = os::arg(3, &mut argument);
     let base = day_of_text(&argument[..length]);
-    match base {
-        Day::Is(day) => open(file, Base::Day(day)),
-        Day::Bad => warn(b"grants: BASE-DAY is no day: write it as 2026-01-31\n"),
+    let Day::Is(day) = base else {
+        warn(b"grants: BASE-DAY is no day: write it as 2026-01-31\n");
+        return Ending::Failed;
+    };
+    if !is_base(day) {
+        warn(b"grants: BASE-DAY is too late: its last quarter must end before the year 10000\n");
+        return Ending::Failed;
     }
+    open(file, Base::Day(day))
 }

@@ -2,9 +2,10 @@
 use crate::common::say_fault;
 use crate::common::say_quarter;
 use calendar::Base;
-use console::output::end;
-use console::output::say;
-use console::output::say_number;
+use console::output::Stream;
+use console::output::answers;
+use console::output::put;
+use console::output::put_number;
 use panel::rows::ROW_BYTES;
 use panel::rows::touching_row;
 use panel::touching::Touching;
@@ -13,16 +14,19 @@ use panel::touching::touching_at;
 // So many grants are shown at a time.
 const SCREEN: usize = 16;
 
-// The door and quarter last asked about, and how many of their grants have been shown; `left` while there are more.
+// The door and quarter last asked about, and how many of their grants have been shown; `left` while there are more. `whole` where all that was
+// to be shown has been written.
 pub struct Shown {
+    pub whole: bool,
     pub left: bool,
     pub door: u16,
     pub quarter: u16,
     pub rows: usize,
 }
 
-pub fn none_shown() -> Shown {
+pub fn none_shown(whole: bool) -> Shown {
     Shown {
+        whole,
         left: false,
         door: 0,
         quarter: 0,
@@ -30,45 +34,59 @@ pub fn none_shown() -> Shown {
     }
 }
 
+// One row: whether there was one and it was written; and whether all was written.
+struct Row {
+    is_row: bool,
+    whole: bool,
+}
+
 // The heads of the rows of `who`.
-pub fn say_who(base: Base, door: u16, quarter: u16) {
-    say(b"door ");
-    say_number(door as usize);
-    say_quarter(base, quarter);
-    say(b"\n");
-    say(b"  number    rank   staff      to through  until             does\n");
+pub fn say_who(base: Base, door: u16, quarter: u16) -> Stream {
+    let named = put_number(put(answers(), b"door "), door as usize);
+    let asked = say_quarter(named, base, quarter);
+    put(
+        asked,
+        b"\n  number    rank   staff      to through  until             does\n",
+    )
 }
 
 // How many grants there were, once all have been shown.
-fn say_total(rows: usize) {
+fn say_total(out: Stream, rows: usize) -> Stream {
     if rows == 0 {
-        end(b"no grant: nobody may open it\n\n");
-        return;
+        return put(out, b"no grant: nobody may open it\n\n");
     }
-    say_number(rows);
-    say(b" in all\n");
-    say(b"in part: a higher grant decides for some of its staff, so ask may\n");
-    end(b"OVERRIDDEN: higher grants decide for all its staff, so do not act on it\n\n");
+    let counted = put(put_number(out, rows), b" in all\n");
+    let in_part = put(
+        counted,
+        b"in part: a higher grant decides for some of its staff, so ask may\n",
+    );
+    put(
+        in_part,
+        b"OVERRIDDEN: higher grants decide for all its staff, so do not act on it\n\n",
+    )
 }
 
-// One row: whether there was one.
-fn say_row(pool: &[u16], base: Base, door: u16, quarter: u16, i: usize) -> bool {
+fn last_row(out: Stream) -> Row {
+    Row {
+        is_row: false,
+        whole: out.whole,
+    }
+}
+
+fn say_row(pool: &[u16], base: Base, door: u16, quarter: u16, i: usize) -> Row {
     let row = touching_at(pool, door, quarter, i);
     match row {
         Touching::Is { grant, precedence } => {
-            let mut out = [0u8; ROW_BYTES];
-            let n = touching_row(grant, precedence, base, &mut out);
-            say(&out[..n]);
-            true
+            let mut text = [0u8; ROW_BYTES];
+            let n = touching_row(grant, precedence, base, &mut text);
+            let out = put(answers(), &text[..n]);
+            Row {
+                is_row: out.whole,
+                whole: out.whole,
+            }
         }
-        Touching::End => {
-            say_total(i);
-            false
-        }
-        Touching::Refused(f) => {
-            say_fault(f);
-            false
-        }
+        Touching::End => last_row(say_total(answers(), i)),
+        Touching::Refused(f) => last_row(say_fault(answers(), f)),
     }
 }
 
@@ -85,6 +103,20 @@ fn is_row(pool: &[u16], door: u16, quarter: u16, i: usize) -> bool {
     }
 }
 
+// The end of a screen: that there is more, or how many there were.
+fn end_screen(pool: &[u16], door: u16, quarter: u16, rows: usize) -> Shown {
+    if !is_row(pool, door, quarter, rows) {
+        return none_shown(say_total(answers(), rows).whole);
+    }
+    Shown {
+        whole: put(answers(), b"more: press Enter\n\n").whole,
+        left: true,
+        door,
+        quarter,
+        rows,
+    }
+}
+
 // A screenful of rows, from the first that has not been shown. Gives how many have been shown then, and whether more are left.
 pub fn say_rows(pool: &[u16], base: Base, shown: Shown) -> Shown {
     let door = shown.door;
@@ -92,21 +124,12 @@ pub fn say_rows(pool: &[u16], base: Base, shown: Shown) -> Shown {
     let mut i: usize = shown.rows % 65536;
     let mut room: usize = SCREEN;
     while 0 < room {
-        if !say_row(pool, base, door, quarter, i) {
-            return none_shown();
+        let row = say_row(pool, base, door, quarter, i);
+        if !row.is_row {
+            return none_shown(row.whole);
         }
         i += 1;
         room -= 1;
     }
-    if !is_row(pool, door, quarter, i) {
-        say_total(i);
-        return none_shown();
-    }
-    end(b"more: press Enter\n\n");
-    Shown {
-        left: true,
-        door,
-        quarter,
-        rows: i,
-    }
+    end_screen(pool, door, quarter, i)
 }

@@ -7,7 +7,7 @@
 -- Assumes nothing.
 use Prim.Native.Nat.{ℕ, _+_, _≤_, min}
 use mathlib.Core.Path.{_≡_, refl, sym, ap, subst, _∙_}
-use mathlib.Core.Bool.{true, false}
+use mathlib.Core.Bool.{Bool, true, false}
 use mathlib.Core.List.{List, _++_}
 use native.Mathlib.Omega.{arith}
 use lib.ListN.{length, take}
@@ -15,7 +15,7 @@ use lib.Seq.{length-take-le, length-slice, take-take, take-append-le}
 use Rattle.io.specs.Counts.{Counts}
 use Rattle.console.specs.declared.lines.Cursor.{Cursor}
 use Rattle.console.specs.declared.lines.Line.{Line}
-use Rattle.console.specs.declared.lines.Line.the-variants.{Held, End, Failed}
+use Rattle.console.specs.declared.lines.Line.the-variants.{Held, End, Failed, Long}
 use Rattle.console.specs.declared.lines.Pulled.{Pulled}
 use Rattle.console.specs.declared.lines.Taken.{Taken}
 use Rattle.console.specs.Newline.{beforeNewline}
@@ -26,9 +26,9 @@ use Rattle.console.proofs.NewlineLaws.{newline-after}
 pub held-counts : (line : List ℕ) (l : Line) (n : ℕ) → HeldIn line l → l ≡ Held n → Counts n line
 held-counts line l n h e = subst (HeldIn line) e h
 
-pub safe-fresh : (input line : List ℕ) (c : Cursor) (l : Line) → (c .at ≡ 0) × (c .end ≡ 0) → HeldIn line l
-    → Safe input line (record { cursor = c; line = l })
-safe-fresh input line c l e h = record { held = h; cursor = record { ordered = omega arith; read = omega arith } }
+pub safe-fresh : (input line : List ℕ) (c : Cursor) (l : Line) (b : Bool) → (c .at ≡ 0) × (c .end ≡ 0) → HeldIn line l
+    → Safe input line (record { cursor = c; line = l; ended = b })
+safe-fresh input line c l b e h = record { held = h; cursor = record { ordered = omega arith; read = omega arith } }
 
 module _ (input : List ℕ) (at end : ℕ) (line : List ℕ) (n : ℕ) (after : List ℕ) (r : Taken)
     (fit : Taking input at end line n) (long : length after ≡ length line) (t : Takes input at end line n after r) (whole : r .whole ≡ true) where
@@ -40,7 +40,7 @@ module _ (input : List ℕ) (at end : ℕ) (line : List ℕ) (n : ℕ) (after : 
       let place : r .at ≡ at + length (beforeNewline rest) + 1 = rw whole at (t .place) in
       omega (arith, length-slice at end input (fit .read), fit .ordered)
 
-  pub safe-taken : Safe input after (record { cursor = record { at = r .at; end = end }; line = Held (r .held) })
+  pub safe-taken : Safe input after (record { cursor = record { at = r .at; end = end }; line = Held (r .held); ended = true })
   safe-taken =
       let room : r .held ≤ length after = omega (arith, t .held) in
       record {
@@ -75,6 +75,7 @@ pub goes-last : (line₀ line : List ℕ) (k n : ℕ) (l : Line) → k ≤ n →
 goes-last line₀ line k n (Held m) h kept e = (omega arith, kept)
 goes-last line₀ line k n End h kept e = omega arith
 goes-last line₀ line k n Failed h kept e = tt
+goes-last line₀ line k n Long h kept e = tt
 
 -- what the buffer had of the line, and then what reading on kept of it
 begins-goes-on : (line piece after after' : List ℕ) (k : ℕ) (l : Line) → k ≡ min (length line) (length piece) → take k after ≡ take (length line) piece
@@ -82,6 +83,7 @@ begins-goes-on : (line piece after after' : List ℕ) (k : ℕ) (l : Line) → k
 begins-goes-on line piece after after' k (Held m) e b g = (omega arith, rw (← e) (g .1 ∙ b))
 begins-goes-on line piece after after' k End e b g = sym e ∙ g
 begins-goes-on line piece after after' k Failed e b g = tt
+begins-goes-on line piece after after' k Long e b g = tt
 
 module _ (input line : List ℕ) (c : Cursor) (inputAfter lineAfter : List ℕ) (r : Pulled) (safe : Safe inputAfter lineAfter r) where
   pub pulls-astray : (Within input c → ⊥) → Pulls input line c inputAfter lineAfter r
@@ -102,7 +104,7 @@ module _ (input line : List ℕ) (c : Cursor) (inputAfter lineAfter : List ℕ) 
 
 pub pulls-taken : (input line : List ℕ) (c : Cursor) (after : List ℕ) (t : Taken) → Taking input (c .at) (c .end) line 0 → length after ≡ length line
     → Takes input (c .at) (c .end) line 0 after t → t .whole ≡ true
-    → Pulls input line c input after (record { cursor = record { at = t .at; end = c .end }; line = Held (t .held) })
+    → Pulls input line c input after (record { cursor = record { at = t .at; end = c .end }; line = Held (t .held); ended = true })
 pulls-taken input line c after t fit long takes whole =
     let held : t .held ≡ min (length line) (length (beforeNewline (unread input (c .at) (c .end)))) = omega (arith, takes .held) in
     record {
@@ -111,6 +113,7 @@ pulls-taken input line c after t fit long takes whole =
       buffered = λ w e.
           record {
             unchanged = refl;
+            ended = refl;
             held = ap Held held;
             bytes = rw (← held) (takes .bytes);
             place = rw whole at (takes .place);

@@ -1,5 +1,6 @@
 // Lines of an open file, one at a time, however the bytes come. The caller lends the buffer that is read into, and the line.
-// Nothing is refused: of a line that is longer than the lent one the first bytes are held, and the others are dropped.
+// Of a line that is longer than the lent one the first bytes are held, and the others are dropped; or the line is given up, if the caller
+// says so.
 ghost use mathlib.Core.Path.{_≡_};
 ghost use Prim.Native.Nat.{_≤_};
 ghost use lib.ListN.{length};
@@ -12,16 +13,26 @@ pub struct Cursor {
     pub end: usize,
 }
 
-// The bytes of a line that the lent line holds, without the newline; or the input ended; or it could not be read.
+// The bytes of a line that the lent line holds, without the newline; or the input ended; or it could not be read; or the line is longer than
+// the lent one, and was given up.
 pub enum Line {
     Held(usize),
     End,
     Failed,
+    Long,
 }
 
+// The line, and whether its newline was met: the last line may have none.
 pub struct Pulled {
     pub cursor: Cursor,
     pub line: Line,
+    pub ended: bool,
+}
+
+// What becomes of a line that is longer than the lent one: it is read to its end, or given up.
+pub enum Longer {
+    Dropped,
+    GivenUp,
 }
 
 // What was taken from the buffer: the place after it, the bytes that the line now holds, and whether its newline was met.
@@ -87,9 +98,17 @@ fn last_line(line: &[u8], held: usize) -> Line
     Line::Held(held)
 }
 
+// Whether a line that holds so many bytes, and has not ended, is given up.
+fn is_given_up(longer: Longer, held: usize, room: usize) -> bool {
+    match longer {
+        Longer::Dropped => false,
+        Longer::GivenUp => held == room,
+    }
+}
+
 // Reads until the line's newline, the end of the input, or a read that fails. A proved loop has to end, and nothing says that the input
 // does: so it counts its turns down, from a number that no run uses up.
-fn read_on(fd: i32, input: &mut [u8], line: &mut [u8], held: usize) -> Pulled
+fn read_on(fd: i32, input: &mut [u8], line: &mut [u8], held: usize, longer: Longer) -> Pulled
     requires { ⌜ held ≤ length (now line) ⌝ }
     ensures { λ r. ⌜ Safe (now (input .exit)) (now (line .exit)) r × GoesOn (now (line .entry)) held (now (line .exit)) (r .line) ⌝ }
 {
@@ -101,6 +120,7 @@ fn read_on(fd: i32, input: &mut [u8], line: &mut [u8], held: usize) -> Pulled
             return Pulled {
                 cursor: fresh(),
                 line: Line::Failed,
+                ended: false,
             };
         }
         let end = io::count(got, input);
@@ -112,35 +132,51 @@ fn read_on(fd: i32, input: &mut [u8], line: &mut [u8], held: usize) -> Pulled
             return Pulled {
                 cursor: Cursor { at: taken.at, end },
                 line: Line::Held(taken.held),
+                ended: true,
             };
         }
         so_far = taken.held;
+        if is_given_up(longer, so_far, line.len()) {
+            return Pulled {
+                cursor: fresh(),
+                line: Line::Long,
+                ended: false,
+            };
+        }
         turns -= 1;
     }
     Pulled {
         cursor: fresh(),
         line: last_line(line, so_far),
+        ended: false,
     }
 }
 
 // The next line, from what is left in the buffer on. A cursor that does not lie in the buffer stands for an empty one.
-pub fn next_line(fd: i32, input: &mut [u8], cursor: Cursor, line: &mut [u8]) -> Pulled
+pub fn next_line(
+    fd: i32,
+    input: &mut [u8],
+    cursor: Cursor,
+    line: &mut [u8],
+    longer: Longer,
+) -> Pulled
     ensures { λ r. ⌜ Pulls (now (input .entry)) (now (line .entry)) cursor (now (input .exit)) (now (line .exit)) r ⌝ }
 {
     let at = cursor.at;
     let end = cursor.end;
     if end < at {
-        return read_on(fd, input, line, 0);
+        return read_on(fd, input, line, 0, longer);
     }
     if input.len() < end {
-        return read_on(fd, input, line, 0);
+        return read_on(fd, input, line, 0, longer);
     }
     let taken = take_line(input, at, end, line, 0);
     if taken.whole {
         return Pulled {
             cursor: Cursor { at: taken.at, end },
             line: Line::Held(taken.held),
+            ended: true,
         };
     }
-    read_on(fd, input, line, taken.held)
+    read_on(fd, input, line, taken.held, longer)
 }

@@ -7,8 +7,11 @@ use commands::panel_loop::panel;
 use commands::report::check;
 use commands::report::show;
 use console::arguments::are;
+use console::arguments::name_at;
+use console::names::warn_name;
 use console::output::warn;
 use console::output::warn_reason;
+use console::status::Ending;
 use grants_file::layout::MAX_BYTES;
 
 // One byte more than the longest file has, so that a longer one is seen to be longer.
@@ -21,7 +24,7 @@ pub enum FileCommand {
     Show,
 }
 
-fn run(command: FileCommand, file: &[u8]) {
+fn run(command: FileCommand, file: &[u8]) -> Ending {
     match command {
         FileCommand::Panel => panel(file),
         FileCommand::Match => match_bank(file),
@@ -31,16 +34,17 @@ fn run(command: FileCommand, file: &[u8]) {
 }
 
 // Reads the file, and runs the command where it could be read.
-fn read_then(command: FileCommand, path: &[u8]) {
+fn read_then(command: FileCommand, path: &[u8]) -> Ending {
     let mut bytes = [0u8; ROOM];
     let got = read(path, &mut bytes);
     match got {
         Read::Bytes(n) => run(command, first(&bytes, n)),
         Read::Failed(error) => {
             warn(b"grants: ");
-            warn(path);
+            warn_name(path);
             warn(b" can't be read: ");
             warn_reason(error);
+            Ending::Failed
         }
     }
 }
@@ -65,11 +69,14 @@ fn place_of(command: FileCommand) -> usize {
     }
 }
 
-pub fn on_file(command: FileCommand) {
+pub fn on_file(command: FileCommand) -> Ending {
     if !is_complete(command) {
-        return;
+        return Ending::Failed;
     }
     let mut path = io::buffer();
-    let length = os::arg(place_of(command), &mut path);
-    read_then(command, &path[..length]);
+    let length = name_at(b"FILE", place_of(command), &mut path);
+    if length == 0 {
+        return Ending::Failed;
+    }
+    read_then(command, &path[..length])
 }

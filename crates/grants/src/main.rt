@@ -3,40 +3,57 @@
 mod file_commands;
 
 use check::same;
+use console::arguments::given;
+use console::output::warn;
+use console::status::Ending;
+use console::status::tell;
 use file_commands::FileCommand;
 use file_commands::on_file;
 
+// The slip program under its other name.
+fn slips() -> Ending {
+    if 1 < given() {
+        warn(b"grants: slips reads standard input and takes no name: type grants slips < FILE\n");
+        return Ending::Failed;
+    }
+    slip_session::program::run()
+}
+
 // Runs a command.
-fn run(command: &[u8]) {
+fn run(command: &[u8]) -> Ending {
     if same(command, b"slips") {
-        slip_session::program::run();
-        return;
+        return slips();
     }
     if same(command, b"panel") {
-        on_file(FileCommand::Panel);
-        return;
+        return on_file(FileCommand::Panel);
     }
     if same(command, b"cut") {
-        commands::cut::cut();
-        return;
+        return commands::cut::cut();
     }
     if same(command, b"match") {
-        on_file(FileCommand::Match);
-        return;
+        return on_file(FileCommand::Match);
     }
     if same(command, b"check") {
-        on_file(FileCommand::Check);
-        return;
+        return on_file(FileCommand::Check);
     }
     if same(command, b"show") {
-        on_file(FileCommand::Show);
-        return;
+        return on_file(FileCommand::Show);
     }
-    commands::help::help(command);
+    if same(command, b"help") {
+        return commands::help::help();
+    }
+    commands::help::unknown(command)
+}
+
+fn run_given() -> Ending {
+    if given() == 0 {
+        return commands::help::no_command();
+    }
+    let mut command = io::buffer();
+    let length = os::arg(1, &mut command);
+    run(&command[..length])
 }
 
 fn main() {
-    let mut command = io::buffer();
-    let length = os::arg(1, &mut command);
-    run(&command[..length]);
+    tell(run_given());
 }

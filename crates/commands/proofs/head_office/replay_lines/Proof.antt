@@ -26,8 +26,8 @@ next-line-requires c κs = search needs
 enum-known-got : tie.Need-enum-known-got Inv-loop μ-loop
 enum-known-got c = search needs
 
-is-at-end-requires : tie.Need-is-at-end-requires Inv-loop μ-loop
-is-at-end-requires c κs = search needs
+at-end-requires : tie.Need-at-end-requires Inv-loop μ-loop
+at-end-requires c κs = search needs
 
 same-length : tie.Need-same-length Inv-loop μ-loop
 same-length c = search needs
@@ -41,17 +41,8 @@ same-length-3 c = search needs
 returns : tie.Need-returns Inv-loop μ-loop
 returns c = search needs
 
-slice-reshare-prefix-is-replayed : tie.Need-slice-reshare-prefix-is-replayed Inv-loop μ-loop
-slice-reshare-prefix-is-replayed c =
-    held-counts _ _ _ (c .before .before .before .before .before .before .before .before .next-line .ensures .safe .held) (c .before .before .got .given .1) .0
-
-slice-aggregate-is-replayed : tie.Need-slice-aggregate-is-replayed Inv-loop μ-loop
-slice-aggregate-is-replayed c =
-    held-counts _ _ _ (c .before .before .before .before .before .before .before .before .before .next-line .ensures .safe .held)
-    (c .before .before .before .got .given .1) .1
-
-is-replayed-requires : tie.Need-is-replayed-requires Inv-loop μ-loop
-is-replayed-requires c κs = search needs
+refuse-unended-requires : tie.Need-refuse-unended-requires Inv-loop μ-loop
+refuse-unended-requires c κs = search needs
 
 same-length-4 : tie.Need-same-length-4 Inv-loop μ-loop
 same-length-4 c = search needs
@@ -65,14 +56,18 @@ same-length-6 c = search needs
 returns-2 : tie.Need-returns-2 Inv-loop μ-loop
 returns-2 c = search needs
 
-add-number : tie.Need-add-number Inv-loop μ-loop
-add-number c = search needs
+slice-reshare-prefix-is-replayed : tie.Need-slice-reshare-prefix-is-replayed Inv-loop μ-loop
+slice-reshare-prefix-is-replayed c =
+    let read = c .before .before .before .before in
+    held-counts _ _ _ (read .before .before .before .before .before .before .next-line .ensures .safe .held) (read .got .given .1) .0
 
-loop-less : tie.Need-loop-less Inv-loop μ-loop
-loop-less c = search needs
+slice-aggregate-is-replayed : tie.Need-slice-aggregate-is-replayed Inv-loop μ-loop
+slice-aggregate-is-replayed c =
+    let read = c .before .before .before .before .before in
+    held-counts _ _ _ (read .before .before .before .before .before .before .next-line .ensures .safe .held) (read .got .given .1) .1
 
-loop-again : tie.Need-loop-again Inv-loop μ-loop
-loop-again c = search needs
+is-replayed-requires : tie.Need-is-replayed-requires Inv-loop μ-loop
+is-replayed-requires c κs = search needs
 
 same-length-7 : tie.Need-same-length-7 Inv-loop μ-loop
 same-length-7 c = search needs
@@ -86,6 +81,27 @@ same-length-9 c = search needs
 returns-3 : tie.Need-returns-3 Inv-loop μ-loop
 returns-3 c = search needs
 
+add-number : tie.Need-add-number Inv-loop μ-loop
+add-number c = search needs
+
+loop-less : tie.Need-loop-less Inv-loop μ-loop
+loop-less c = search needs
+
+loop-again : tie.Need-loop-again Inv-loop μ-loop
+loop-again c = search needs
+
+same-length-10 : tie.Need-same-length-10 Inv-loop μ-loop
+same-length-10 c = search needs
+
+same-length-11 : tie.Need-same-length-11 Inv-loop μ-loop
+same-length-11 c = search needs
+
+same-length-12 : tie.Need-same-length-12 Inv-loop μ-loop
+same-length-12 c = search needs
+
+returns-4 : tie.Need-returns-4 Inv-loop μ-loop
+returns-4 c = search needs
+
 pub replay-lines-spec : {M : Type 1} → statement M
 replay-lines-spec =
     tie.close
@@ -96,22 +112,27 @@ replay-lines-spec =
     loop-holds
     next-line-requires
     enum-known-got
-    is-at-end-requires
+    at-end-requires
     same-length
     same-length-2
     same-length-3
     returns
-    slice-reshare-prefix-is-replayed
-    slice-aggregate-is-replayed
-    is-replayed-requires
+    refuse-unended-requires
     same-length-4
     same-length-5
     same-length-6
     returns-2
-    add-number
-    loop-less
-    loop-again
+    slice-reshare-prefix-is-replayed
+    slice-aggregate-is-replayed
+    is-replayed-requires
     same-length-7
     same-length-8
     same-length-9
-    returns-3)
+    returns-3
+    add-number
+    loop-less
+    loop-again
+    same-length-10
+    same-length-11
+    same-length-12
+    returns-4)

@@ -9,10 +9,10 @@ use Rattle.commands.proofs.report.say_rows.Statement.{statement}
 use Rattle.commands.proofs.report.say_rows.Tie as tie
 
 abbrev Inv-loop : tie.InvT-loop
-Inv-loop file total i₀ i = total ≡ totalIn file
+Inv-loop file total shown₀ i₀ shown i = total ≡ totalIn file
 
 abbrev μ-loop : tie.MeasureT-loop
-μ-loop file total i₀ i = total - i
+μ-loop file total shown₀ i₀ shown i = total - i
 
 total-in-requires : tie.Need-total-in-requires Inv-loop μ-loop
 total-in-requires c κs = accepted-whole _ (c .before .pre) .some

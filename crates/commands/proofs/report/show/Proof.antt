@@ -10,24 +10,36 @@ validate-requires c κs = search needs
 is-wrong-requires : tie.Need-is-wrong-requires
 is-wrong-requires c κs = search needs
 
+answers-requires : tie.Need-answers-requires
+answers-requires c κs = search needs
+
 say-defect-requires : tie.Need-say-defect-requires
 say-defect-requires c κs = search needs
 
+answered-requires : tie.Need-answered-requires
+answered-requires c κs = search needs
+
 returns : tie.Need-returns
 returns c = search needs
+
+answers-requires-2 : tie.Need-answers-requires-2
+answers-requires-2 c κs = search needs
 
 say-heads-requires : tie.Need-say-heads-requires
 say-heads-requires c κs = search needs
 
 say-rows-requires : tie.Need-say-rows-requires
-say-rows-requires c κs = let sound = c .before in
+say-rows-requires c κs = let sound = c .before .before in
     let told = sound .before in
     taken _ (told .before .validate .ensures) (told .is-wrong .ensures) (sound .if1 .left)
 
 say-holdings-requires : tie.Need-say-holdings-requires
-say-holdings-requires c κs = let sound = c .before .before in
+say-holdings-requires c κs = let sound = c .before .before .before in
     let told = sound .before in
     taken _ (told .before .validate .ensures) (told .is-wrong .ensures) (sound .if1 .left)
+
+answered-requires-2 : tie.Need-answered-requires-2
+answered-requires-2 c κs = search needs
 
 returns-2 : tie.Need-returns-2
 returns-2 c = search needs
@@ -38,9 +50,13 @@ show-spec =
     (tie.spec
     validate-requires
     is-wrong-requires
+    answers-requires
     say-defect-requires
+    answered-requires
     returns
+    answers-requires-2
     say-heads-requires
     say-rows-requires
     say-holdings-requires
+    answered-requires-2
     returns-2)

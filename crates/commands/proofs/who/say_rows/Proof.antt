@@ -5,10 +5,10 @@ use Rattle.commands.proofs.who.say_rows.Statement.{statement}
 use Rattle.commands.proofs.who.say_rows.Tie as tie
 
 abbrev Inv-loop : tie.InvT-loop
-Inv-loop pool base door quarter i₀ room₀ t8 i room = i + room ≤ 65551
+Inv-loop pool base door quarter i₀ room₀ i room = i + room ≤ 65551
 
 abbrev μ-loop : tie.MeasureT-loop
-μ-loop pool base door quarter i₀ room₀ t8 i room = room
+μ-loop pool base door quarter i₀ room₀ i room = room
 
 loop-holds : tie.Need-loop-holds Inv-loop μ-loop
 loop-holds c = search needs
@@ -34,26 +34,11 @@ loop-less c = search needs
 loop-again : tie.Need-loop-again Inv-loop μ-loop
 loop-again c = search needs
 
-is-row-requires : tie.Need-is-row-requires Inv-loop μ-loop
-is-row-requires c κs = search needs
-
-say-total-requires : tie.Need-say-total-requires Inv-loop μ-loop
-say-total-requires c κs = search needs
-
-none-shown-requires-2 : tie.Need-none-shown-requires-2 Inv-loop μ-loop
-none-shown-requires-2 c κs = search needs
+end-screen-requires : tie.Need-end-screen-requires Inv-loop μ-loop
+end-screen-requires c κs = search needs
 
 returns-2 : tie.Need-returns-2 Inv-loop μ-loop
 returns-2 c = search needs
-
-slice-aggregate-end : tie.Need-slice-aggregate-end Inv-loop μ-loop
-slice-aggregate-end c = search needs
-
-end-requires : tie.Need-end-requires Inv-loop μ-loop
-end-requires c κs = search needs
-
-returns-3 : tie.Need-returns-3 Inv-loop μ-loop
-returns-3 c = search needs
 
 pub say-rows-spec : {M : Type 1} → statement M
 say-rows-spec =
@@ -69,10 +54,5 @@ say-rows-spec =
     sub-room
     loop-less
     loop-again
-    is-row-requires
-    say-total-requires
-    none-shown-requires-2
-    returns-2
-    slice-aggregate-end
-    end-requires
-    returns-3)
+    end-screen-requires
+    returns-2)

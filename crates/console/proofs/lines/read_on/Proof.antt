@@ -9,11 +9,11 @@ use Rattle.console.proofs.lines.read_on.Statement.{statement}
 use Rattle.console.proofs.lines.read_on.Tie as tie
 
 abbrev Inv-loop : tie.InvT-loop
-Inv-loop fd input₀ line₀ held so-far₀ turns₀ input line so-far turns =
+Inv-loop fd input₀ line₀ held longer so-far₀ turns₀ input line so-far turns =
     (so-far ≤ length line) × (length line ≡ length line₀) × (length input ≡ length input₀) × (held ≤ so-far) × (take held line ≡ take held line₀)
 
 abbrev μ-loop : tie.MeasureT-loop
-μ-loop fd input₀ line₀ held so-far₀ turns₀ input line so-far turns = turns
+μ-loop fd input₀ line₀ held longer so-far₀ turns₀ input line so-far turns = turns
 
 loop-holds : tie.Need-loop-holds Inv-loop μ-loop
 loop-holds c = search needs
@@ -31,7 +31,7 @@ same-length-2 : tie.Need-same-length-2 Inv-loop μ-loop
 same-length-2 c = search needs
 
 returns : tie.Need-returns Inv-loop μ-loop
-returns c = (safe-fresh _ _ _ _ (c .fresh .ensures) tt, tt)
+returns c = (safe-fresh _ _ _ _ _ (c .fresh .ensures) tt, tt)
 
 count-requires : tie.Need-count-requires Inv-loop μ-loop
 count-requires c κs = search needs
@@ -53,6 +53,21 @@ returns-2 c =
       takes-go-on _ _ _ _ _ _ _ _ _ (at .loop .inv .3) (search needs) (at .loop .inv .4) t,
     )
 
+is-given-up-requires : tie.Need-is-given-up-requires Inv-loop μ-loop
+is-given-up-requires c κs = search needs
+
+fresh-requires-2 : tie.Need-fresh-requires-2 Inv-loop μ-loop
+fresh-requires-2 c κs = search needs
+
+same-length-5 : tie.Need-same-length-5 Inv-loop μ-loop
+same-length-5 c = search needs
+
+same-length-6 : tie.Need-same-length-6 Inv-loop μ-loop
+same-length-6 c = search needs
+
+returns-3 : tie.Need-returns-3 Inv-loop μ-loop
+returns-3 c = (safe-fresh _ _ _ _ _ (c .fresh2 .ensures) tt, tt)
+
 sub-turns : tie.Need-sub-turns Inv-loop μ-loop
 sub-turns c = search needs
 
@@ -61,27 +76,27 @@ loop-less c = search needs
 
 loop-again : tie.Need-loop-again Inv-loop μ-loop
 loop-again c =
-    let at = c .before .before .before .before .before .before .before .before .before .before .before .before .before .before .before in
-    let t = c .before .before .before .take-line .ensures in
+    let at = c .before .before .before .before .before .before .before .before .before .before .before .before .before .before .before .before .before in
+    let t = c .before .before .before .before .before .take-line .ensures in
     let more = takes-go-on _ _ _ _ _ _ _ _ _ (at .loop .inv .3) (search needs) (at .loop .inv .4) t in
     (search needs, search needs, search needs, more .0, more .1)
 
-fresh-requires-2 : tie.Need-fresh-requires-2 Inv-loop μ-loop
-fresh-requires-2 c κs = search needs
+fresh-requires-3 : tie.Need-fresh-requires-3 Inv-loop μ-loop
+fresh-requires-3 c κs = search needs
 
 last-line-requires : tie.Need-last-line-requires Inv-loop μ-loop
 last-line-requires c κs = search needs
 
-same-length-5 : tie.Need-same-length-5 Inv-loop μ-loop
-same-length-5 c = ⊎-elim (λ w. search needs) (λ w. search needs) (c .before .before .before .loop-test .came)
+same-length-7 : tie.Need-same-length-7 Inv-loop μ-loop
+same-length-7 c = ⊎-elim (λ w. search needs) (λ w. search needs) (c .before .before .before .loop-test .came)
 
-same-length-6 : tie.Need-same-length-6 Inv-loop μ-loop
-same-length-6 c = search needs
+same-length-8 : tie.Need-same-length-8 Inv-loop μ-loop
+same-length-8 c = search needs
 
-returns-3 : tie.Need-returns-3 Inv-loop μ-loop
-returns-3 c =
+returns-4 : tie.Need-returns-4 Inv-loop μ-loop
+returns-4 c =
     let at = c .before .before .before .before in (
-      safe-fresh _ _ _ _ (c .before .before .fresh2 .ensures) (c .last-line .ensures .0),
+      safe-fresh _ _ _ _ _ (c .before .before .fresh3 .ensures) (c .last-line .ensures .0),
       goes-last _ _ _ _ (c .last-line .result) (at .loop .inv .3) (at .loop .inv .4) (c .last-line .ensures .1),
     )
 
@@ -102,11 +117,16 @@ read-on-spec =
     same-length-3
     same-length-4
     returns-2
+    is-given-up-requires
+    fresh-requires-2
+    same-length-5
+    same-length-6
+    returns-3
     sub-turns
     loop-less
     loop-again
-    fresh-requires-2
+    fresh-requires-3
     last-line-requires
-    same-length-5
-    same-length-6
-    returns-3)
+    same-length-7
+    same-length-8
+    returns-4)
