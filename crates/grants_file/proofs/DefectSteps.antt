@@ -130,9 +130,10 @@ module _ (doors : Interval) (i k last : ℕ) (b : List ℕ) (at : ℕ) {g : Gran
     checked =
         let r = recordAt b at in
         let touch = Doors i k (recordNumber r) when not (touches doors (decodeRecord r)) in
+        let found = check ∙ ap (λ (q : Request). firstWrong q requestOrder) asked in
         rw (lt-leb (recordNumber r) last (omega (arith, number)))
         (firstWrong-defect i k (recordNumber r) (recordRequest r) requestOrder (touch ∷ [])
-        ∙ ap (λ (d : RequestCheck). checkDefect i k (recordNumber r) d (firstDefect (touch ∷ []))) (sym (check ∙ ap (λ (q : Request). firstWrong q requestOrder) asked))
+        ∙ ap (λ (d : RequestCheck). checkDefect i k (recordNumber r) d (firstDefect (touch ∷ []))) (sym found)
         ∙ ap₂ (λ (n : ℕ) (h : Grant). checkDefect i k n c (firstDefect (Doors i k n when not (touches doors h) ∷ []))) (sym number) (sym read))
 
     pub record-wrong : {x : RequestFault} → c ≡ Wrong x → requestDefect i k (g .number) x ≡ firstDefect (recordDefects doors i k last (recordAt b at))

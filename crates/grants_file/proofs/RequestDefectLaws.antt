@@ -40,7 +40,8 @@ module _ (i k n : ℕ) where
     abbrev causesAmong : List RequestFault → List Cause
     causesAmong xs = map (λ x. faultOf x if wrongIn r x) xs
 
-    pub firstWrong-defect : (xs : List RequestFault) (ds : List DefectCause) → firstDefect (defectsAmong xs ++ ds) ≡ checkDefect (firstWrong r xs) (firstDefect ds)
+    pub firstWrong-defect : (xs : List RequestFault) (ds : List DefectCause)
+        → firstDefect (defectsAmong xs ++ ds) ≡ checkDefect (firstWrong r xs) (firstDefect ds)
     unfolding firstDefect firstWrong
     firstWrong-defect [] ds = refl
     firstWrong-defect (x ∷ xs) ds = rw (request-wrong x) (go (wrongIn r x) (firstWrong-defect xs ds))
