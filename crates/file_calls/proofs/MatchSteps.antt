@@ -52,7 +52,8 @@ module _ (w f : List ℕ) where
     match-bad z = leaves-as (first-holds w [] compared _ _ (pool-refused w e z)) .answered
 
     module _ (n : ¬ (c ≡ 0)) where
-      pub match-file : {o : Outcome} → outcomeAnswer o ≡ judging (fileCauses f) f .answer → {x : Fault} → o ≡ Refused x → outcomeAnswer o ≡ matchCall w f .answer
+      pub match-file : {o : Outcome} → outcomeAnswer o ≡ judging (fileCauses f) f .answer → {x : Fault} → o ≡ Refused x
+          → outcomeAnswer o ≡ matchCall w f .answer
       match-file v {x} r =
           ap outcomeAnswer r ∙ sym (match-refuses w f x (answer-refused f x (sym v ∙ ap outcomeAnswer r)) ∙ rw (pool-taken w e n .right))
 
