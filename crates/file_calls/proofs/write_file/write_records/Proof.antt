@@ -63,11 +63,12 @@ loop-again c =
     let at = read .before .before .before in
     let start = at .before .before .before in
     let l = at .loop in
+    let cells = start .pre .readable in
     let size = wrote .write-record .kept .1 .1 .0 in (
       omega arith,
       size ∙ l .inv .1,
       size ∙ l .inv .2,
-      records-more (start .args .pool .now) (start .args .cells .now) _ (start .args .first) (l .i) (omega (arith, start .pre .readable .few, start .pre .readable .room))
+      records-more (start .args .pool .now) (start .args .cells .now) _ (start .args .first) (l .i) (omega (arith, cells .few, cells .room))
           (read .wide .ensures .0) refl (l .inv .3) (wrote .write-record .ensures),
     )
 
