@@ -2,14 +2,18 @@
 --   twoDigits n           the last two digits of a number
 --   dateText d, timeText q, momentText base q
 --   dateBytes, timeBytes, momentBytes     their lengths
+--   MomentFits n out at base q    what putting it goes by: n bytes of room at a place of a line, a base day of a year up to lastYear, and
+--                                 a quarter, or the one past the last
 -- Assumes nothing: these are definitions.
-use Prim.Native.Nat.{ℕ, _/_, _%_}
+use Prim.Native.Nat.{ℕ, _+_, _/_, _%_, _≤_}
 use Prim.Native.Char.{code}
 use mathlib.Core.List.{List, [], _∷_, _++_}
+use lib.ListN.{length}
+use Rattle.model.specs.Values.{wordValues}
 use Rattle.text.specs.Ascii.{blank}
 use Rattle.text.specs.Numeral.{digit}
 use Rattle.calendar.specs.declared.Date.{Date}
-use Rattle.calendar.specs.Calendar.{dateAfter, dayOf, hourOf, minuteOf}
+use Rattle.calendar.specs.Calendar.{lastYear, dateAfter, dayOf, hourOf, minuteOf}
 
 abbrev pub twoDigits : ℕ → List ℕ
 twoDigits n = digit (n / 10 % 10) ∷ digit (n % 10) ∷ []
@@ -37,3 +41,8 @@ timeBytes = 5
 
 abbrev pub momentBytes : ℕ
 momentBytes = 16
+
+pub record MomentFits (n : ℕ) (out : List ℕ) (at : ℕ) (base : Date) (q : ℕ) : Type 0 where
+  pub room : at + n ≤ length out
+  pub year : base .year ≤ lastYear
+  pub quarter : q ≤ wordValues

@@ -1,10 +1,8 @@
 // Puts the day and time of a quarter as text, `YYYY-MM-DD HH:MM`, at a place of a line (specs/Moment), and answers the next place.
 ghost use Prim.Native.Nat.{_+_, _≤_};
 ghost use lib.ListN.{length};
-ghost use Rattle.model.specs.Values.{wordValues};
 ghost use Rattle.text.specs.Put.{Put};
-ghost use Rattle.calendar.specs.Calendar.{lastYear};
-ghost use Rattle.calendar.specs.Moment.{twoDigits, dateText, timeText, momentText, momentBytes, dateBytes, timeBytes};
+ghost use Rattle.calendar.specs.Moment.{twoDigits, dateText, timeText, momentText, momentBytes, dateBytes, timeBytes, MomentFits};
 use crate::Date;
 use crate::days::date_after;
 use crate::days::day_of;
@@ -44,7 +42,7 @@ pub fn put_time(out: &mut [u8], at: usize, quarter: usize) -> usize
 
 // The day and time at which a quarter starts that is counted from a base day; the one past the last is where the last ends.
 pub fn put_moment(out: &mut [u8], at: usize, base: Date, quarter: usize) -> usize
-    requires { ⌜ (at + momentBytes ≤ length (now out)) × (base .year ≤ lastYear) × (quarter ≤ wordValues) ⌝ }
+    requires { ⌜ MomentFits momentBytes (now out) at base quarter ⌝ }
     ensures { λ r. ⌜ Put (now (out .entry)) at (momentText base quarter) r (now (out .exit)) ⌝ }
 {
     let gap = put_date(out, at, date_after(base, day_of(quarter)));

@@ -2,12 +2,11 @@
 // Refuses by 1, the file's faults, then 6. The file is judged whole before a word is written.
 ghost use mathlib.Core.Path.{_≡_};
 ghost use Rattle.model.specs.Answer.{outcomeAnswer};
-ghost use Rattle.pool.specs.Capacity.{Sized};
-ghost use Rattle.grants_file.specs.File.{totalIn, grantsIn};
-ghost use Rattle.grants_file.specs.FileSets.{Accepted};
+ghost use Rattle.grants_file.specs.File.{grantsIn};
 ghost use Rattle.calls.specs.FileCalls.{loadCall};
 ghost use Rattle.steps.specs.Insertions.{addedAll};
 ghost use Rattle.calls.specs.Contract.{Leaves};
+ghost use Rattle.file_calls.specs.Loading.{Loading};
 use grants_file::grants::grant_in;
 use grants_file::grants::total_in;
 use grants_file::verdict::judge;
@@ -19,7 +18,7 @@ use steps::insertion::add;
 
 // Hangs the grants of an accepted file, one after the other: their numbers rise, so each is new, and none is searched for.
 fn add_all(pool: &mut [u16], file: &[u8], cells: usize, total: usize)
-    requires { ⌜ Sized (now pool) cells × Accepted (now file) × (total ≡ totalIn (now file)) ⌝ }
+    requires { ⌜ Loading (now pool) cells (now file) total ⌝ }
     ensures { λ r. ⌜ now (pool .exit) ≡ addedAll (now (pool .entry)) (grantsIn (now (file .entry))) ⌝ }
 {
     let mut i: usize = 0;

@@ -8,12 +8,12 @@ ghost use Rattle.lists.specs.Overwrite.{overwrite};
 ghost use Rattle.model.specs.Limits.{maxGrants};
 ghost use Rattle.pool.specs.Capacity.{InPool};
 ghost use Rattle.pool.specs.Cell.{grantAt};
-ghost use Rattle.grants_file.specs.Layout.{recordBytes, blockBytes, recordsPlace, recordsPerBlock};
+ghost use Rattle.grants_file.specs.Layout.{recordBytes, blockBytes, recordsPlace};
 ghost use Rattle.grants_file.specs.Record.{encodeRecord};
 ghost use Rattle.grants_file.specs.Block.{headerBlock, recordBlock};
 ghost use Rattle.grants_file.specs.File.{blocksFor, chunk, fileOf};
 ghost use Rattle.steps.specs.Hits.{CellsAt, grantsAt};
-ghost use Rattle.file_calls.specs.RecordBlocks.{BlockOfCells, recordsFile};
+ghost use Rattle.file_calls.specs.RecordBlocks.{BlockOfCells, RecordsInBlock, BlocksInFile, recordsFile};
 use adt::search::HitCells;
 use grants_file::file::blocks_for;
 use grants_file::file::count_in;
@@ -39,7 +39,7 @@ fn write_record(pool: &[u16], cell: usize, block: &mut [u8], at: usize)
 
 // The records of the grants in so many cells, from the first on.
 fn write_records(pool: &[u16], cells: &HitCells, first: usize, count: usize, block: &mut [u8])
-    requires { ⌜ CellsAt (now pool) (now cells) (first + count) × (count ≤ recordsPerBlock) × (length (now block) ≡ blockBytes) ⌝ }
+    requires { ⌜ RecordsInBlock (now pool) (now cells) first count (now block) ⌝ }
     ensures { λ r. ⌜ now (block .exit)
         ≡ sets (now (block .entry)) recordsPlace (flatMap encodeRecord (grantsAt (now (pool .entry)) (drop first (now (cells .entry))) count)) ⌝ }
 {
@@ -90,7 +90,7 @@ fn write_at(pool: &[u16], cells: &HitCells, total: usize, number: usize, bytes: 
 
 // The blocks of records, behind block 0.
 fn write_blocks(pool: &[u16], cells: &HitCells, total: usize, blocks: usize, bytes: &mut [u8])
-    requires { ⌜ CellsAt (now pool) (now cells) total × (blocks ≡ blocksFor total) × (blockBytes * blocksFor total ≤ length (now bytes)) ⌝ }
+    requires { ⌜ BlocksInFile (now pool) (now cells) total blocks (now bytes) ⌝ }
     ensures { λ r. ⌜ now (bytes .exit)
         ≡ overwrite (take blockBytes (now (bytes .entry)) ++ recordsFile (grantsAt (now (pool .entry)) (now (cells .entry)) total) total)
         (now (bytes .entry)) ⌝ }

@@ -1,11 +1,10 @@
 // What exactly is wrong in a file (specs/Defects): the first defect, in document 01's order (10, then per block rising 12, 11, 13).
 // It stops at the first block that is refused.
 ghost use mathlib.Core.Path.{_≡_};
-ghost use Prim.Native.Nat.{suc, _<_, _≤_};
-ghost use Rattle.grants_file.specs.Layout.{maxBlocks};
+ghost use Prim.Native.Nat.{suc, _<_};
 ghost use Rattle.grants_file.specs.File.{blocksIn};
 ghost use Rattle.grants_file.specs.Defects.{headerDefects, lastBefore, contentDefects, firstDefect, defectIn};
-ghost use Rattle.grants_file.specs.Answers.{blockAnswer, refusedDefect};
+ghost use Rattle.grants_file.specs.Answers.{JudgedBlock, blockAnswer, refusedDefect};
 use crate::BlockAnswer;
 use crate::Defect;
 use crate::block::count_of;
@@ -50,7 +49,7 @@ fn header_defect(file: &[u8]) -> Defect
 
 // A block behind its start, for the number of the last record before it. Its record count is held against n.
 fn content_defect(file: &[u8], number: usize, last: u16) -> Defect
-    requires { ⌜ (number < blocksIn (now file)) × (blocksIn (now file) ≤ maxBlocks) × (last ≡ lastBefore (now file) number) ⌝ }
+    requires { ⌜ JudgedBlock (now file) number last ⌝ }
     ensures { λ r. ⌜ r ≡ firstDefect (contentDefects (now (file .entry)) number) ⌝ }
 {
     if number == 0 {
@@ -78,7 +77,7 @@ fn last_in(file: &[u8], number: usize) -> u16
 
 // The answer of a block, for the number of the last record before it.
 fn block_answer(file: &[u8], number: usize, last: u16) -> BlockAnswer
-    requires { ⌜ (number < blocksIn (now file)) × (blocksIn (now file) ≤ maxBlocks) × (last ≡ lastBefore (now file) number) ⌝ }
+    requires { ⌜ JudgedBlock (now file) number last ⌝ }
     ensures { λ r. ⌜ r ≡ blockAnswer (now (file .entry)) number ⌝ }
 {
     let start = start_defect(block_at(file, number), number);

@@ -6,7 +6,7 @@ ghost use lib.ListN.{length, take};
 ghost use Rattle.model.specs.Values.{wordValues};
 ghost use Rattle.text.specs.Put.{Put, Counts};
 ghost use Rattle.calendar.specs.Calendar.{lastYear};
-ghost use Rattle.calendar.specs.Moment.{momentBytes};
+ghost use Rattle.calendar.specs.Moment.{momentBytes, MomentFits};
 ghost use Rattle.panel.specs.Rows.{shownBase, kindText, precedenceText, momentColumn, noteAfter, timesFrom};
 ghost use Rattle.panel.specs.Rows.{grantHeads, grantRow, touchingRow, momentNote, timesRow};
 use calendar::Base;
@@ -159,7 +159,7 @@ pub fn touching_row(
 
 // A quarter's day and time, from a base day that can be shown.
 fn put_note_from(out: &mut [u8], at: usize, base: Date, quarter: usize) -> usize
-    requires { ⌜ (at + 19 ≤ length (now out)) × (base .year ≤ lastYear) × (quarter ≤ wordValues) ⌝ }
+    requires { ⌜ MomentFits 19 (now out) at base quarter ⌝ }
     ensures { λ r. ⌜ Put (now (out .entry)) at (noteAfter (Base.Day base) quarter) r (now (out .exit)) × (r ≡ at + 19) ⌝ }
 {
     let moment = put_text(out, at, b" (");

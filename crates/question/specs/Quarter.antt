@@ -3,12 +3,13 @@
 --   sameDate a b               the two are one day
 --   daysFrom left n base day   the first of `left` numbers, from n on, that is how many days the day comes after the base day; else the number after them
 --   daysSince base day         the days from the base day to the day; `daysLimit`, more than the quarters reach, where it comes later or before
+--   TimeInReach n h m          a time from 00:00 to 23:59, at most `daysLimit` days after the base day
 --   quarterAt n h m            the quarter of a time n days after the base day; Bad where it is above `lastQuarter`
 --   timeOf base day h m        the quarter of a day and a time from 00:00 to 23:59
 --   quarterOf base bs          the quarter of the day and time that are the whole text; Bad for any other text, a day before the base day,
 --                              a quarter above 65535, and where the base day is no day
 -- Assumes nothing: these are definitions.
-use Prim.Native.Nat.{ℕ, zero, suc, _+_, _*_, _/_}
+use Prim.Native.Nat.{ℕ, zero, suc, _+_, _*_, _/_, _≤_}
 use mathlib.Core.Bool.{Bool, cond, _&&_}
 use mathlib.Core.List.{List}
 use lib.Dec.{eqb, leb}
@@ -41,6 +42,11 @@ daysLimit = 683
 
 abbrev pub daysSince : Date → Date → ℕ
 daysSince base day = daysFrom daysLimit 0 base day
+
+pub record TimeInReach (n hour minute : ℕ) : Type 0 where
+  pub near : n ≤ daysLimit
+  pub hour-of-day : hour ≤ 23
+  pub minute-of-hour : minute ≤ 59
 
 abbrev pub lastQuarter : ℕ
 lastQuarter = 65535

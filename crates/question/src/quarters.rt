@@ -2,7 +2,7 @@
 ghost use mathlib.Core.Path.{_≡_};
 ghost use Prim.Native.Nat.{_≤_};
 ghost use Rattle.calendar.specs.Calendar.{lastYear};
-ghost use Rattle.question.specs.Quarter.{momentForm, sameDate, daysSince, daysLimit, quarterAt, timeOf, quarterOf};
+ghost use Rattle.question.specs.Quarter.{momentForm, sameDate, daysSince, daysLimit, TimeInReach, quarterAt, timeOf, quarterOf};
 use crate::Day;
 use crate::Number;
 use crate::Quarter;
@@ -62,7 +62,7 @@ fn days_since(base: Date, day: Date) -> usize
 
 // The quarter of a time, so many days after the base day.
 fn quarter_at(days: usize, hour: u16, minute: u16) -> Quarter
-    requires { ⌜ (days ≤ daysLimit) × (hour ≤ 23) × (minute ≤ 59) ⌝ }
+    requires { ⌜ TimeInReach days hour minute ⌝ }
     ensures { λ r. ⌜ r ≡ quarterAt days hour minute ⌝ }
 {
     let q = 96 * days + 4 * hour as usize + minute as usize / 15;

@@ -22,12 +22,12 @@ loop-holds c = (refl, refl)
 grant-in-requires : tie.Need-grant-in-requires Inv-loop μ-loop
 grant-in-requires c κs =
     let start = c .before .before .before .before .before in
-    (start .pre .1, omega (arith, start .pre .2))
+    (start .pre .accepted, omega (arith, start .pre .counted))
 
 add-requires : tie.Need-add-requires Inv-loop μ-loop
 add-requires c κs =
     let l = c .before .before .before .loop in
-    let size = c .before .before .before .before .before .before .pre .0 in
+    let size = c .before .before .before .before .before .before .pre .sized in
     record { some = size .some; few = size .few; long = l .inv .0 ∙ size .long }
 
 add-i : tie.Need-add-i Inv-loop μ-loop
@@ -51,7 +51,7 @@ returns : tie.Need-returns Inv-loop μ-loop
 returns c =
     let l = c .before .loop in
     let start = c .before .before .before .before in
-    sym (added-all (start .args .file .now) (l .pool) (l .i) (omega (arith, start .pre .2))) ∙ l .inv .1
+    sym (added-all (start .args .file .now) (l .pool) (l .i) (omega (arith, start .pre .counted))) ∙ l .inv .1
 
 pub add-all-spec : {M : Type 1} → statement M
 add-all-spec =

@@ -79,11 +79,13 @@ add-all-requires c κs =
     let some = judged .before in
     let start = some .before .before .before .before .before in
     let t = length-taken (start .args .pool .now) (some .before .length-capacity .ensures) (some .if1 .left) in
-    let size = made .make-fresh .kept .0 ∙ t .sized .long in (
-      record { some = t .sized .some; few = t .sized .few; long = size },
-      load-accepted (start .args .pool .now) _ (some .before .length-capacity .ensures) (some .if1 .left) (judged .judge .ensures) (told .enum-told .given .1),
-      counted .total-in .ensures .0,
-    )
+    let size = made .make-fresh .kept .0 ∙ t .sized .long in
+    let judgement = judged .judge .ensures in
+    record {
+      sized = record { some = t .sized .some; few = t .sized .few; long = size };
+      accepted = load-accepted (start .args .pool .now) _ (some .before .length-capacity .ensures) (some .if1 .left) judgement (told .enum-told .given .1);
+      counted = counted .total-in .ensures .0;
+    }
 
 same-length-4 : tie.Need-same-length-4
 same-length-4 c = search needs

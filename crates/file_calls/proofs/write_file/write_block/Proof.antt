@@ -31,11 +31,12 @@ write-records-requires c κs =
     let begun = c .before .before .before in
     let counted = begun .before .before in
     let start = counted .before .before .before in
-    let at = start .pre .0 in (
-      cells-fewer (at .readable) (omega (arith, counted .count-in .ensures .0, at .positive, at .below)),
-      counted .count-in .ensures .1,
-      begun .start-block .kept .0 ∙ start .pre .1,
-    )
+    let at = start .pre .0 in
+    record {
+      readable = cells-fewer (at .readable) (omega (arith, counted .count-in .ensures .0, at .positive, at .below));
+      few = counted .count-in .ensures .1;
+      long = begun .start-block .kept .0 ∙ start .pre .1;
+    }
 
 mul-seal : tie.Need-mul-seal
 mul-seal c = search needs

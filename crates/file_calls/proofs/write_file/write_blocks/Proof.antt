@@ -21,17 +21,17 @@ loop-holds c =
     let start = c .before .before in
     let a = start .args in (
       omega arith,
-      omega (arith, start .pre .1),
+      omega (arith, start .pre .counted),
       refl,
-      blocks-none (a .pool .now) (a .cells .now) (a .total) (a .bytes .now) (omega (arith, start .pre .2)),
+      blocks-none (a .pool .now) (a .cells .now) (a .total) (a .bytes .now) (omega (arith, start .pre .room)),
     )
 
 write-at-requires : tie.Need-write-at-requires Inv-loop μ-loop
 write-at-requires c κs =
     let at = c .before .before in
     let start = at .before .before .before in (
-      record { readable = start .pre .0; positive = at .loop .inv .0; below = omega (arith, start .pre .1) },
-      omega (arith, at .loop .inv .2, start .pre .2),
+      record { readable = start .pre .readable; positive = at .loop .inv .0; below = omega (arith, start .pre .counted) },
+      omega (arith, at .loop .inv .2, start .pre .room),
     )
 
 add-i : tie.Need-add-i Inv-loop μ-loop
@@ -50,7 +50,7 @@ loop-again c =
       omega arith,
       omega arith,
       wrote .write-at .kept .1 .1 .1 .1 .0 ∙ l .inv .2,
-      blocks-turn (a .pool .now) (a .cells .now) (a .total) (a .bytes .now) (l .i) (l .inv .0) (omega (arith, start .pre .2)) (l .inv .3)
+      blocks-turn (a .pool .now) (a .cells .now) (a .total) (a .bytes .now) (l .i) (l .inv .0) (omega (arith, start .pre .room)) (l .inv .3)
           (wrote .write-at .ensures),
     )
 
@@ -62,7 +62,7 @@ returns c =
     let at = c .before in
     let start = at .before .before .before in
     blocks-all (start .args .pool .now) (start .args .cells .now) (start .args .total) (start .args .bytes .now) (at .loop .i)
-    (omega (arith, start .pre .1)) (at .loop .inv .3)
+    (omega (arith, start .pre .counted)) (at .loop .inv .3)
 
 pub write-blocks-spec : {M : Type 1} → statement M
 write-blocks-spec =

@@ -16,7 +16,11 @@ write-blocks-requires c κs =
     let counted = c .before in
     let begun = counted .before .before .before in
     let start = begun .before .before .before .before in
-    (start .pre .0, counted .blocks-for .ensures, omega (arith, start .pre .1, begun .write-front .kept .1 .1 .1 .0))
+    record {
+      readable = start .pre .0;
+      counted = counted .blocks-for .ensures;
+      room = omega (arith, start .pre .1, begun .write-front .kept .1 .1 .1 .0);
+    }
 
 same-length : tie.Need-same-length
 same-length c = search needs

@@ -24,16 +24,16 @@ abbrev μ-loop : tie.MeasureT-loop
 loop-holds : tie.Need-loop-holds Inv-loop μ-loop
 loop-holds c =
     let start = c .before .before in
-    (omega arith, refl, start .pre .2, records-none (start .args .pool .now) (start .args .cells .now) (start .args .first) _)
+    (omega arith, refl, start .pre .long, records-none (start .args .pool .now) (start .args .cells .now) (start .args .first) _)
 
 add-wide : tie.Need-add-wide Inv-loop μ-loop
-add-wide c = let start = c .before .before .before .before in omega (arith, start .pre .0 .few)
+add-wide c = let start = c .before .before .before .before in omega (arith, start .pre .readable .few)
 
 mul-wide : tie.Need-mul-wide Inv-loop μ-loop
 mul-wide c = search needs
 
 element-copy-out-wide : tie.Need-element-copy-out-wide Inv-loop μ-loop
-element-copy-out-wide c = let start = c .before .before .before .before in omega (arith, start .pre .0 .few, start .pre .0 .room)
+element-copy-out-wide c = let start = c .before .before .before .before in omega (arith, start .pre .readable .few, start .pre .readable .room)
 
 wide-requires : tie.Need-wide-requires Inv-loop μ-loop
 wide-requires c κs = search needs
@@ -48,7 +48,7 @@ write-record-requires : tie.Need-write-record-requires Inv-loop μ-loop
 write-record-requires c κs =
     let at = c .before .before .before .before in
     let start = at .before .before .before in
-    (cell-hit (start .pre .0) (omega arith) (c .before .wide .ensures .0), omega (arith, at .loop .inv .2, start .pre .1))
+    (cell-hit (start .pre .readable) (omega arith) (c .before .wide .ensures .0), omega (arith, at .loop .inv .2, start .pre .few))
 
 add-i : tie.Need-add-i Inv-loop μ-loop
 add-i c = search needs
@@ -63,11 +63,12 @@ loop-again c =
     let at = read .before .before .before in
     let start = at .before .before .before in
     let l = at .loop in
+    let cells = start .pre .readable in
     let size = wrote .write-record .kept .1 .1 .0 in (
       omega arith,
       size ∙ l .inv .1,
       size ∙ l .inv .2,
-      records-more (start .args .pool .now) (start .args .cells .now) _ (start .args .first) (l .i) (omega (arith, start .pre .0 .few, start .pre .0 .room))
+      records-more (start .args .pool .now) (start .args .cells .now) _ (start .args .first) (l .i) (omega (arith, cells .few, cells .room))
           (read .wide .ensures .0) refl (l .inv .3) (wrote .write-record .ensures),
     )
 

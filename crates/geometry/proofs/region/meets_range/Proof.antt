@@ -74,7 +74,8 @@ loop-less c = search needs
 loop-again : tie.Need-loop-again Inv-loop μ-loop
 loop-again c =
     let i = c .before .before .before .before .before .before in
-    (search needs, i .before .loop .inv .1 ∙ each-passes _ _ (i .loop-test .taken) (rw (le-leb _ _ (c .before .before .before .if1 .left), le-leb _ _ (c .if2 .left))))
+    let first = c .before .before .before .if1 .left in
+    (search needs, i .before .loop .inv .1 ∙ each-passes _ _ (i .loop-test .taken) (rw (le-leb _ _ first, le-leb _ _ (c .if2 .left))))
 
 returns-3 : tie.Need-returns-3 Inv-loop μ-loop
 returns-3 c = sym (c .before .loop .inv .1 ∙ each-end _ _ (c .loop-test .left))

@@ -35,10 +35,18 @@ wide-requires-3 : tie.Need-wide-requires-3
 wide-requires-3 c κs = search needs
 
 returns : tie.Need-returns
-returns c = rw (← c .before .wide3 .ensures .0, ← c .before .before .before .before .wide .ensures .0, ← c .before .before .wide2 .ensures .0, le-leb _ _ (c .if1 .taken))
+returns c =
+    let x = c .before in
+    let high = x .before in
+    let low = high .before .before in
+    rw (← x .wide3 .ensures .0, ← low .wide .ensures .0, ← high .wide2 .ensures .0, le-leb _ _ (c .if1 .taken))
 
 returns-2 : tie.Need-returns-2
-returns-2 c = rw (← c .before .wide3 .ensures .0, ← c .before .before .before .before .wide .ensures .0, ← c .before .before .wide2 .ensures .0, lt-leb _ _ (c .if1 .left))
+returns-2 c =
+    let x = c .before in
+    let high = x .before in
+    let low = high .before .before in
+    rw (← x .wide3 .ensures .0, ← low .wide .ensures .0, ← high .wide2 .ensures .0, lt-leb _ _ (c .if1 .left))
 
 pub side-of-spec : {M : Type 1} → statement M
 side-of-spec =

@@ -68,7 +68,7 @@ returns-3 c = let to = c .before in
     (sym (sound .if2 .left) ∙ told .is-wrong .ensures)
     (from .first-door .ensures)
     (to .last-door .ensures)
-    (block .before .before .before .pre .2)
+    (block .before .before .before .pre .last-before)
     (c .records-defect .ensures)
 
 pub content-defect-spec : {M : Type 1} → statement M

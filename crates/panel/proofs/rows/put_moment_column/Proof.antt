@@ -27,7 +27,11 @@ put-moment-requires : tie.Need-put-moment-requires
 put-moment-requires c κs =
     let day = c .before .before in
     let start = day .before .before .before .before in
-    (start .pre .0, shown-year (start .args .base) (day .before .before .shown-base .ensures) (day .shown .given .1), start .pre .1)
+    record {
+      room = start .pre .0;
+      year = shown-year (start .args .base) (day .before .before .shown-base .ensures) (day .shown .given .1);
+      quarter = start .pre .1;
+    }
 
 same-length : tie.Need-same-length
 same-length c = search needs

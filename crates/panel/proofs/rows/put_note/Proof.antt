@@ -26,11 +26,12 @@ wide-requires c κs = search needs
 put-note-from-requires : tie.Need-put-note-from-requires
 put-note-from-requires c κs =
     let day = c .before .before .before in
-    let start = day .before .before .before .before in (
-      start .pre,
-      shown-year (start .args .base) (day .before .before .shown-base .ensures) (day .shown .given .1),
-      omega (arith, c .wide .ensures .1),
-    )
+    let start = day .before .before .before .before in
+    record {
+      room = start .pre;
+      year = shown-year (start .args .base) (day .before .before .shown-base .ensures) (day .shown .given .1);
+      quarter = omega (arith, c .wide .ensures .1);
+    }
 
 returns : tie.Need-returns
 returns c =
