@@ -69,11 +69,22 @@ fn contents_at(path: &[u8]) -> Contents {
     }
 }
 
+// Why a file could not be written: what is said of a new file's name alone, or of any file.
+fn warn_why(error: i32) {
+    if error == libc::EEXIST {
+        warn(b"all names for a new file are taken: remove the leftovers\n");
+    } else if error == libc::ENAMETOOLONG {
+        warn(b"its name is too long: while it is written it has five bytes more\n");
+    } else {
+        warn_reason(error);
+    }
+}
+
 pub fn warn_unwritten(path: &[u8], error: i32) {
     warn(b"grants: ");
     warn_name(path);
     warn(b" was not written, and nothing was changed: ");
-    warn_reason(error);
+    warn_why(error);
 }
 
 // Whether a file may be replaced that is there.
