@@ -103,7 +103,9 @@ loop-again : tie.Need-loop-again Inv-loop μ-loop
 loop-again c =
     let read = c .before .before .before .before .before .before .before .before .before .before .before .before .before .before .before in
     let turn = read .before .before .before .before .before .before in
-    (omega (arith, turn .loop .inv .0, turn .loop .inv .1, read .next-line .kept .1 .0, read .next-line .kept .1 .1 .1 .0), omega (arith, turn .loop .inv .0, turn .loop .inv .1, read .next-line .kept .1 .0, read .next-line .kept .1 .1 .1 .0))
+    let input = read .next-line .kept .1 .0 in
+    let line = read .next-line .kept .1 .1 .1 .0 in
+    (omega (arith, turn .loop .inv .0, turn .loop .inv .1, input, line), omega (arith, turn .loop .inv .0, turn .loop .inv .1, input, line))
 
 same-length-9 : tie.Need-same-length-9 Inv-loop μ-loop
 same-length-9 c = search needs
