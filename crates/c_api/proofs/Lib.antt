@@ -1,2 +1,2 @@
 -- Laws of the C interface.
-pub mod PackLaws
+pub mod ContractLaws

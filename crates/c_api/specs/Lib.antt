@@ -1,3 +1,2 @@
--- The C interface: how an answer is packed into one word, what each call leaves, and the claims that the values fit and read back.
-pub mod Pack
+-- The C interface: what each call returns and leaves.
 pub mod Contract

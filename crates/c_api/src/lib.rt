@@ -1,23 +1,24 @@
-// The C interface (include/lg.h): each call is the entry point of its name, and returns its answer packed into one word (specs/Pack).
+// The C interface (include/lg.h): each call is the entry point of its name, and returns its answer packed into one word (packing/specs/Pack).
 // Each is safe on any memory of the lengths that it is given. A refusal leaves everything as it was.
 ghost use mathlib.Core.Path.{_≡_};
 ghost use Rattle.model.specs.Call.{request};
 ghost use Rattle.calls.specs.Calls.{startCall, grantCall, revokeCall, listCall, decideCall, countCall};
-ghost use Rattle.grants_file.specs.BlockRead.{blockCall};
+ghost use Rattle.block_read.specs.BlockRead.{blockCall};
 ghost use Rattle.calls.specs.FileCalls.{writeCall, loadCall, matchCall};
-ghost use Rattle.c_api.specs.Pack.{pack, packPair, packLength, packPart, boxOf};
-ghost use Rattle.c_api.specs.Contract.{PacksPool, PacksLent, PacksOut};
-use crate::pack::pack_counted;
-use crate::pack::pack_decision;
-use crate::pack::pack_listed;
-use crate::pack::pack_matched;
-use crate::pack::pack_outcome;
-use crate::pack::pack_written;
-use crate::pack::word;
+ghost use Rattle.packing.specs.Pack.{pack, packPair, packLength};
+ghost use Rattle.packing.specs.Decision.{PacksOut};
+ghost use Rattle.c_api.specs.Contract.{PacksPool, PacksLent, packPart, boxOf};
+use packing::pack_counted;
+use packing::pack_decision;
+use packing::pack_listed;
+use packing::pack_matched;
+use packing::pack_outcome;
+use packing::pack_written;
+use packing::word;
 use file_calls::load::load;
 use file_calls::matching::match_file;
-use grants_file::block_read::block_part;
-use grants_file::block_read::block_verdict;
+use block_read::part::block_part;
+use block_read::verdict::block_verdict;
 use grants_file::layout::BLOCK_BYTES;
 use grants_file::layout::RECORDS_PLACE;
 use index::grant::grant;
@@ -26,8 +27,6 @@ use index::start::start;
 use model::Box;
 use queries::count::count;
 use queries::decide::decide;
-
-mod pack;
 
 // Refuses 1.
 #[no_mangle]

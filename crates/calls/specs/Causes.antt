@@ -1,5 +1,5 @@
 -- The causes of faults 5 to 9 and 14, each once, in the words of document 01's table. Those of 1 stand in pool/specs/Capacity, those
--- of 2 to 4 in model/specs/Arguments, those of 10 to 13 in grants_file/specs/Defects and BlockRead.
+-- of 2 to 4 in model/specs/Arguments, those of 10 to 13 in grants_file/specs/Defects and block_read/specs/BlockRead.
 --   numberLive hits           5, and its opposite 7: the number is live when its search hits
 --   noFreeCell w              6: a cell is free when the free head isn't 0
 --   tooManyGrants w f         6 in load: n above C

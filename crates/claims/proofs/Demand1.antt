@@ -24,7 +24,7 @@ use Rattle.model.specs.Judged.{Judged}
 use Rattle.model.proofs.JudgedLaws.{refusing-judged, judged-same, refusing-keeps-state}
 use Rattle.geometry.specs.SearchRange.{rangeOfBox, rangeOfDoors, rangeOfNumber, rangeOfAll}
 use Rattle.grants_file.specs.File.{doorsIn}
-use Rattle.grants_file.specs.BlockRead.{readCauses, blockCall}
+use Rattle.block_read.specs.BlockRead.{readCauses, blockCall}
 use Rattle.calls.specs.LinkCauses.{searchMeets9, searchHits, grantMeets9, revokeMeets9}
 use Rattle.calls.specs.Order.{startOrder, grantOrder, revokeOrder, listOrder, lookOrder, writeOrder, loadOrder, matchOrder}
 use Rattle.calls.specs.Calls.{startCall, grantCall, revokeCall, listCall, decideCall, countCall}

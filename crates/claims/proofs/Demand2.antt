@@ -23,12 +23,12 @@ use Rattle.pool.specs.Capacity.{wrongLength, wrongPool}
 use Rattle.grants_file.specs.Layout.{blockBytes}
 use Rattle.grants_file.specs.Record.{encodeRecord}
 use Rattle.grants_file.specs.File.{chunk, fileOf, blocksIn, grantsIn}
-use Rattle.grants_file.specs.BlockRead.{readCauses, partOf, blockCall}
+use Rattle.block_read.specs.BlockRead.{readCauses, partOf, blockCall}
 use Rattle.grants_file.specs.FileSets.{Accepted, FileSet, Ordering}
 use Rattle.grants_file.proofs.CauseLaws.{Passes, accepted-iff}
 use Rattle.grants_file.proofs.VerdictLaws.{accepted-files}
 use Rattle.grants_file.proofs.OneByteLaws.{one-byte}
-use Rattle.grants_file.proofs.PartLaws.{passes-read, part-first, part-grants, part-refusal}
+use Rattle.block_read.proofs.PartLaws.{passes-read, part-first, part-grants, part-refusal}
 use Rattle.grants_file.proofs.SetLaws.{set-touching}
 use Rattle.calls.specs.Calls.{startCall}
 use Rattle.calls.specs.FileCalls.{grantAll, loadCall, matchCall}

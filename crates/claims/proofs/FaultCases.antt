@@ -12,7 +12,7 @@ use Rattle.geometry.specs.declared.Side.the-variants.{Left}
 use Rattle.grants_file.specs.Block.{sealed, headerBlock, recordBlock}
 use Rattle.grants_file.specs.File.{fileOf}
 use Rattle.calls.specs.Calls.{startCall, grantCall, revokeCall, listCall, decideCall, countCall}
-use Rattle.grants_file.specs.BlockRead.{blockCall}
+use Rattle.block_read.specs.BlockRead.{blockCall}
 use Rattle.calls.specs.FileCalls.{writeCall, loadCall, matchCall}
 use Rattle.claims.proofs.Cases.{Case, box, one, responses}
 use Rattle.claims.proofs.Pools.{node, chain, pool}

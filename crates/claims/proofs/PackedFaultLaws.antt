@@ -22,7 +22,7 @@ use Rattle.model.specs.declared.Fault.the-variants.{BadLength, BadLayout, BadCh
 use Rattle.model.specs.Fault.{faultNumber, faultValues}
 use Rattle.model.specs.Answer.{Answer, refusal}
 use Rattle.model.specs.Refusal.{Cause, Step, firstFault, stepBy, refusing}
-use Rattle.c_api.specs.Pack.{numberValues, aValues, bValues, firstOf}
+use Rattle.packing.specs.Pack.{numberValues, aValues, bValues, firstOf}
 use Rattle.claims.specs.PackedFits.{FitsRefusal}
 
 abbrev pub Small : Fault → Type 0

@@ -49,17 +49,17 @@ use Rattle.grants_file.specs.File.{countIn, blocksIn, blockAt, wrongBlockCount,
 use Rattle.grants_file.specs.Defects.{DefectCause, startDefects, layoutDefects, recordDefects, recordsDefects}
 use Rattle.grants_file.specs.Defects.{lastBefore, miscounted, contentDefects, blockDefects, fileDefects}
 use Rattle.grants_file.specs.Verdict.{causesOf, fileCauses}
-use Rattle.grants_file.specs.BlockRead.{notInFile, wrongCount, restDefects, readCauses, blockCall, Part, emptyPart, partAt}
+use Rattle.block_read.specs.BlockRead.{notInFile, wrongCount, restDefects, readCauses, blockCall, Part, emptyPart, partAt}
 use Rattle.grants_file.proofs.BytesLaws.{getD-below}
 use Rattle.grants_file.proofs.CauseLaws.{Whole, wrongBlockCount-iff, accepted-iff}
 use Rattle.grants_file.proofs.VerdictLaws.{passes-set}
-use Rattle.grants_file.proofs.BlockReadSteps.{RecordsAt, part-cases}
+use Rattle.block_read.proofs.BlockReadSteps.{RecordsAt, part-cases}
 use Rattle.calls.specs.Walks.{boxSearch, doorSearch, hitsOf, grantsHit}
 use Rattle.calls.specs.Causes.{lengthNeeded}
 use Rattle.calls.specs.Order.{startOrder, grantOrder, revokeOrder, listOrder, lookOrder, writeOrder, loadOrder, matchOrder}
 use Rattle.calls.specs.Calls.{startCall, grantCall, revokeCall, listCall, decideCall, countCall}
 use Rattle.calls.specs.FileCalls.{touchingGrants, writeCall, loadCall, firstDifference, matchCall}
-use Rattle.c_api.specs.Pack.{aValues}
+use Rattle.packing.specs.Pack.{aValues}
 use Rattle.calls.proofs.FewHitsLaws.{hits-few}
 use Rattle.claims.specs.PackedFits.{Fits, FitsPair, FitsLength, FitsPart, AnswersFit}
 use Rattle.claims.proofs.PackedFaultLaws.{SmallAll, SmallFirst, fault-fits, small-all, small-first, small-append, call-fits}

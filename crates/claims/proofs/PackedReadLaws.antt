@@ -6,11 +6,12 @@ use Prim.Native.Nat.{ℕ, _<_}
 use mathlib.Core.Bool.{Bool, true, false, cond}
 use mathlib.Core.List.{List}
 use lib.Dec.{eqb, lit<}
-use Rattle.grants_file.specs.BlockRead.{partAt}
-use Rattle.c_api.specs.Pack.{numberValues, aValues, bValues, word, firstOf, packRefusal, packPart, listTooShort}
+use Rattle.block_read.specs.BlockRead.{partAt}
+use Rattle.packing.specs.Pack.{numberValues, aValues, bValues, word, firstOf, packRefusal, listTooShort}
+use Rattle.c_api.specs.Contract.{packPart}
 use Rattle.claims.specs.PackedFits.{FitsRefusal, FitsPart}
 use Rattle.claims.specs.PackedReads.{Reads, ReadsBack}
-use Rattle.c_api.proofs.PackLaws.{number-word, a-word, b-word}
+use Rattle.packing.proofs.PackLaws.{number-word, a-word, b-word}
 
 pub reads-word : (number a b : ℕ) → number < numberValues → a < aValues → b < bValues → Reads (word number a b) number a b
 reads-word number a b n k m =

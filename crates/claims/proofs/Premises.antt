@@ -45,7 +45,7 @@ use Rattle.geometry.specs.declared.Side.{Side}
 use Rattle.adt.specs.Reach.{CarriedAt}
 use Rattle.grants_file.specs.Block.{sealed, headerBlock}
 use Rattle.grants_file.specs.File.{fileOf, blocksIn, grantsIn, wrongBlockCount}
-use Rattle.grants_file.specs.BlockRead.{notInFile, readCauses, blockCall}
+use Rattle.block_read.specs.BlockRead.{notInFile, readCauses, blockCall}
 use Rattle.grants_file.specs.FileSets.{Accepted, DoorRange, ascending-none, ascending-more, FileSet, Ordering}
 use Rattle.grants_file.proofs.FileLaws.{length-fileOf, fileOf-below}
 use Rattle.grants_file.proofs.VerdictLaws.{fileOf-accepted}

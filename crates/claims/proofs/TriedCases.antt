@@ -44,7 +44,7 @@ use Rattle.grants_file.specs.Block.{sealed, headerBlock, recordBlock, recordsOf
 use Rattle.grants_file.specs.File.{fileOf, wrongBlockCount, doorsIn, grantsIn}
 use Rattle.grants_file.specs.Defects.{recordsDefects, lastBefore, contentDefects, fileDefects}
 use Rattle.grants_file.specs.Verdict.{fileCauses}
-use Rattle.grants_file.specs.BlockRead.{notInFile, wrongCount, restDefects, readCauses, partOf, blockCall}
+use Rattle.block_read.specs.BlockRead.{notInFile, wrongCount, restDefects, readCauses, partOf, blockCall}
 use Rattle.calls.specs.Causes.{grantBroken, revokeBroken}
 use Rattle.calls.specs.LinkCauses.{searchMeets9, searchHits, grantMeets9, revokeMeets9}
 use Rattle.calls.specs.Order.{startOrder, grantOrder, revokeOrder, listOrder, lookOrder, writeOrder, loadOrder, matchOrder}

@@ -15,10 +15,10 @@ use Rattle.model.specs.Interval.{Interval}
 use Rattle.model.specs.Answer.{Answer, accepted, refused}
 use Rattle.model.specs.Call.{Request}
 use Rattle.model.specs.Values.{wordValues, byteValues, Below}
-use Rattle.grants_file.specs.BlockRead.{partAt, blockCall}
+use Rattle.block_read.specs.BlockRead.{partAt, blockCall}
 use Rattle.calls.specs.Calls.{startCall, grantCall, revokeCall, listCall, decideCall, countCall}
 use Rattle.calls.specs.FileCalls.{writeCall, loadCall, matchCall}
-use Rattle.c_api.specs.Pack.{numberValues, aValues, bValues, firstOf, secondOf, listTooShort}
+use Rattle.packing.specs.Pack.{numberValues, aValues, bValues, firstOf, secondOf, listTooShort}
 
 -- fault 8's value is a, any other fault's b
 pub record FitsRefusal (number : ℕ) (values : List ℕ) : Type 0 where

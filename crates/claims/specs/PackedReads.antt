@@ -8,8 +8,9 @@ use mathlib.Core.Bool.{cond}
 use mathlib.Core.List.{List}
 use lib.Dec.{eqb}
 use Rattle.model.specs.Answer.{accepted}
-use Rattle.grants_file.specs.BlockRead.{partAt}
-use Rattle.c_api.specs.Pack.{numberValues, aValues, firstOf, secondOf, packRefusal, pack, packPair, packLength, packPart, listTooShort}
+use Rattle.block_read.specs.BlockRead.{partAt}
+use Rattle.packing.specs.Pack.{numberValues, aValues, firstOf, secondOf, packRefusal, pack, packPair, packLength, listTooShort}
+use Rattle.c_api.specs.Contract.{packPart}
 use Rattle.claims.specs.PackedFits.{FitsRefusal, Fits, FitsPair, FitsLength, FitsPart}
 
 pub record Reads (x number a b : ℕ) : Type 0 where

@@ -9,14 +9,12 @@ pub mod FileLaws
 pub mod CauseLaws
 pub mod VerdictLaws
 pub mod OneByteLaws
-pub mod PartLaws
 pub mod DefectCases
 pub mod RecordSteps
 pub mod BlockSteps
 pub mod FileSteps
 pub mod DefectSteps
 pub mod ValidateSteps
-pub mod BlockReadSteps
 pub mod GrantSteps
 pub mod WriteBlockSteps
 pub mod SetLaws

@@ -6,6 +6,5 @@ pub mod Block
 pub mod File
 pub mod Defects
 pub mod Verdict
-pub mod BlockRead
 pub mod Answers
 pub mod FileSets

@@ -2,7 +2,6 @@
 // Any bytes are taken as a file, and none are changed but by the functions that write. Nothing here knows of a pool or makes one.
 pub mod block;
 pub mod block_defects;
-pub mod block_read;
 pub mod bytes;
 pub mod defects;
 pub mod file;

@@ -1,5 +1,5 @@
 -- `lg_block_part` meets its contract: the part is empty, or not. Assumes nothing.
-use Rattle.c_api.proofs.PackLaws.{part-none, part-some}
+use Rattle.c_api.proofs.ContractLaws.{part-none, part-some}
 use borrow.Author.Needs.{needs}
 use Rattle.c_api.proofs.lg_block_part.Statement.{statement}
 use Rattle.c_api.proofs.lg_block_part.Tie as tie

@@ -1,5 +1,5 @@
 -- `lg_decide` meets its contract: the answer of `decide`, packed. Assumes nothing.
-use Rattle.c_api.proofs.PackLaws.{packs-out}
+use Rattle.c_api.proofs.ContractLaws.{packs-out}
 use borrow.Author.Needs.{needs}
 use Rattle.c_api.proofs.lg_decide.Statement.{statement}
 use Rattle.c_api.proofs.lg_decide.Tie as tie

@@ -1,5 +1,5 @@
 -- `lg_grant` meets its contract: the answer of `grant`, packed. Assumes nothing.
-use Rattle.c_api.proofs.PackLaws.{packs-pool}
+use Rattle.c_api.proofs.ContractLaws.{packs-pool}
 use borrow.Author.Needs.{needs}
 use Rattle.c_api.proofs.lg_grant.Statement.{statement}
 use Rattle.c_api.proofs.lg_grant.Tie as tie

@@ -1,5 +1,5 @@
 -- `lg_load` meets its contract: the answer of `load`, packed. Assumes nothing.
-use Rattle.c_api.proofs.PackLaws.{packs-pool}
+use Rattle.c_api.proofs.ContractLaws.{packs-pool}
 use borrow.Author.Needs.{needs}
 use Rattle.c_api.proofs.lg_load.Statement.{statement}
 use Rattle.c_api.proofs.lg_load.Tie as tie

@@ -1,5 +1,5 @@
 -- `lg_revoke` meets its contract: the answer of `revoke`, packed. Assumes nothing.
-use Rattle.c_api.proofs.PackLaws.{packs-pool}
+use Rattle.c_api.proofs.ContractLaws.{packs-pool}
 use borrow.Author.Needs.{needs}
 use Rattle.c_api.proofs.lg_revoke.Statement.{statement}
 use Rattle.c_api.proofs.lg_revoke.Tie as tie

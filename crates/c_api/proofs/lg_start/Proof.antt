@@ -1,5 +1,5 @@
 -- `lg_start` meets its contract: the answer of `start`, packed. Assumes nothing.
-use Rattle.c_api.proofs.PackLaws.{packs-pool}
+use Rattle.c_api.proofs.ContractLaws.{packs-pool}
 use borrow.Author.Needs.{needs}
 use Rattle.c_api.proofs.lg_start.Statement.{statement}
 use Rattle.c_api.proofs.lg_start.Tie as tie

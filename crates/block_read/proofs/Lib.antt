@@ -1,0 +1,3 @@
+-- Laws of block read.
+pub mod BlockReadSteps
+pub mod PartLaws

@@ -1,0 +1,2 @@
+-- Laws of packed answers.
+pub mod PackLaws

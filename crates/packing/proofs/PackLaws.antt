@@ -1,0 +1,30 @@
+-- A packed answer, its parts and a refusal's value.
+--   number-word, a-word, b-word       a word's parts read back, where they fit their bits
+--   refusal-list, refusal-other       a refusal's value is a with fault 8, b with any other
+-- Assumes nothing.
+use Prim.Native.Nat.{ℕ, _/_, _%_, _<_}
+use mathlib.Core.Path.{_≡_}
+use mathlib.Core.List.{List}
+use native.Mathlib.Omega.{arith}
+use borrow.Author.Tests.{eq-eqb, ne-eqb}
+use Rattle.packing.specs.Pack.{word, firstOf, packRefusal, listTooShort}
+
+module _ (number a b : ℕ) (n : number < 256) (k : a < 16777216) (m : b < 4294967296) where
+  pub number-word : word number a b % 256 ≡ number
+  unfolding word
+  number-word = omega arith
+
+  pub a-word : word number a b / 256 % 16777216 ≡ a
+  unfolding word
+  a-word = omega arith
+
+  pub b-word : word number a b / 4294967296 ≡ b
+  unfolding word
+  b-word = omega arith
+
+module _ (number : ℕ) (values : List ℕ) {n v r : ℕ} (e : n ≡ number) (f : v ≡ firstOf values) where
+  pub refusal-list : n ≡ listTooShort → r ≡ word n v 0 → r ≡ packRefusal number values
+  refusal-list is p = rw (← e, ← f, eq-eqb n listTooShort is) p
+
+  pub refusal-other : (n ≡ listTooShort → ⊥) → r ≡ word n 0 v → r ≡ packRefusal number values
+  refusal-other other p = rw (← e, ← f, ne-eqb n listTooShort other) p

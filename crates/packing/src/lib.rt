@@ -1,0 +1,122 @@
+// The packing of an answer into one word (specs/Pack).
+ghost use mathlib.Core.Path.{_≡_};
+ghost use mathlib.Core.List.{[], _∷_, _++_};
+ghost use Rattle.model.specs.Grant.{grantValues};
+ghost use Rattle.model.specs.Fault.{faultNumber, faultValues};
+ghost use Rattle.model.specs.Answer.{outcomeAnswer, listedAnswer, decisionAnswer, countedAnswer, writtenAnswer, matchedAnswer};
+ghost use Rattle.packing.specs.Pack.{word, packRefusal, pack, packPair, packLength};
+ghost use Rattle.packing.specs.Decision.{PacksOut};
+use model::Counted;
+use model::Decision;
+use model::Fault;
+use model::Grant;
+use model::Listed;
+use model::Matched;
+use model::Outcome;
+use model::Written;
+use model::faults::fault_number;
+use model::faults::fault_value;
+use model::kinds::kind_number;
+
+// Bits 0 to 7 the number, 8 to 31 `a`, 32 to 63 `b`.
+pub fn word(number: u64, a: u64, b: u64) -> u64
+    ensures { λ r. ⌜ r ≡ word number a b ⌝ }
+{
+    number % 256 + 256 * (a % 16777216) + 4294967296 * (b % 4294967296)
+}
+
+fn pack_fault(fault: Fault) -> u64
+    ensures { λ r. ⌜ r ≡ packRefusal (faultNumber fault) (faultValues fault) ⌝ }
+{
+    let number = fault_number(fault) as u64;
+    let value = fault_value(fault) as u64;
+    let list_too_short = fault_number(Fault::ListTooShort { needed: 0 }) as u64;
+    if number == list_too_short {
+        return word(number, value, 0);
+    }
+    word(number, 0, value)
+}
+
+pub fn pack_outcome(outcome: Outcome) -> u64
+    ensures { λ r. ⌜ r ≡ pack (outcomeAnswer outcome) ⌝ }
+{
+    match outcome {
+        Outcome::Done => word(0, 0, 0),
+        Outcome::Refused(fault) => pack_fault(fault),
+    }
+}
+
+pub fn pack_listed(listed: Listed) -> u64
+    ensures { λ r. ⌜ r ≡ pack (listedAnswer listed) ⌝ }
+{
+    match listed {
+        Listed::Count(count) => word(0, count as u64, 0),
+        Listed::Refused(fault) => pack_fault(fault),
+    }
+}
+
+pub fn pack_counted(counted: Counted) -> u64
+    ensures { λ r. ⌜ r ≡ packPair (countedAnswer counted) ⌝ }
+{
+    match counted {
+        Counted::Cells { live, free } => word(0, live as u64, free as u64),
+        Counted::Refused(fault) => pack_fault(fault),
+    }
+}
+
+pub fn pack_written(written: Written) -> u64
+    ensures { λ r. ⌜ r ≡ packLength (writtenAnswer written) ⌝ }
+{
+    match written {
+        Written::Length(length) => word(0, 0, length as u64),
+        Written::Refused(fault) => pack_fault(fault),
+    }
+}
+
+pub fn pack_matched(matched: Matched) -> u64
+    ensures { λ r. ⌜ r ≡ pack (matchedAnswer matched) ⌝ }
+{
+    match matched {
+        Matched::Equal => word(0, 0, 0),
+        Matched::Differs(number) => word(0, number as u64, 0),
+        Matched::Refused(fault) => pack_fault(fault),
+    }
+}
+
+// The whole grant, and 0 behind it.
+fn words_of(g: Grant) -> [u16; 10]
+    ensures { λ r. ⌜ r ≡ grantValues g ++ (0 ∷ []) ⌝ }
+{
+    let b = g.bounds;
+    let kind = g.kind;
+    [
+        g.number,
+        g.rank as u16,
+        kind_number(kind) as u16,
+        b.staff_from,
+        b.staff_to,
+        b.door_from,
+        b.door_to,
+        b.quarter_from,
+        b.quarter_to,
+        0,
+    ]
+}
+
+// Opens and barred leave the whole grant in `out`; none and a refusal leave it as it was.
+pub fn pack_decision(decision: Decision, out: &mut [u16; 10]) -> u64
+    ensures { λ r. ⌜ PacksOut r (now (out .exit)) (now (out .entry)) (decisionAnswer decision) ⌝ }
+{
+    match decision {
+        Decision::None => word(0, 0, 0),
+        Decision::Opens(g) => {
+            *out = words_of(g);
+            word(0, 1, 0)
+        }
+        Decision::Barred(g) => {
+            *out = words_of(g);
+            word(0, 2, 0)
+        }
+        Decision::Refused(fault) => pack_fault(fault),
+    }
+}
