@@ -1,6 +1,6 @@
 -- `lg_block` meets its contract: the answer of `block_verdict`, packed. Assumes nothing.
 use mathlib.Core.Path.{ap, _∙_}
-use Rattle.c_api.specs.Pack.{pack}
+use Rattle.packing.specs.Pack.{pack}
 use borrow.Author.Needs.{needs}
 use Rattle.c_api.proofs.lg_block.Statement.{statement}
 use Rattle.c_api.proofs.lg_block.Tie as tie

@@ -1,6 +1,6 @@
 -- `lg_count` meets its contract: the answer of `count`, packed. Assumes nothing.
 use mathlib.Core.Path.{ap, _∙_}
-use Rattle.c_api.specs.Pack.{packPair}
+use Rattle.packing.specs.Pack.{packPair}
 use borrow.Author.Needs.{needs}
 use Rattle.c_api.proofs.lg_count.Statement.{statement}
 use Rattle.c_api.proofs.lg_count.Tie as tie

@@ -1,5 +1,5 @@
 -- `lg_list` meets its contract: the answer of `list`, packed. Assumes nothing.
-use Rattle.c_api.specs.Pack.{pack}
+use Rattle.packing.specs.Pack.{pack}
 use Rattle.c_api.proofs.ContractLaws.{packs-lent}
 use borrow.Author.Needs.{needs}
 use Rattle.c_api.proofs.lg_list.Statement.{statement}

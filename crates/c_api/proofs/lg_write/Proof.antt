@@ -1,5 +1,5 @@
 -- `lg_write` meets its contract: the answer of `write`, packed. Assumes nothing.
-use Rattle.c_api.specs.Pack.{packLength}
+use Rattle.packing.specs.Pack.{packLength}
 use Rattle.c_api.proofs.ContractLaws.{packs-lent}
 use borrow.Author.Needs.{needs}
 use Rattle.c_api.proofs.lg_write.Statement.{statement}
