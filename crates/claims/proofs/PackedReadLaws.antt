@@ -7,7 +7,7 @@ use mathlib.Core.Bool.{Bool, true, false, cond}
 use mathlib.Core.List.{List}
 use lib.Dec.{eqb, lit<}
 use Rattle.block_read.specs.BlockRead.{partAt}
-use Rattle.packing.specs.Pack.{numberValues, aValues, bValues, word, firstOf, packRefusal, listTooShort}
+use Rattle.packing.specs.Pack.{numberValues, aValues, bValues, word, firstOf, packRefusal, listFault}
 use Rattle.c_api.specs.Contract.{packPart}
 use Rattle.claims.specs.PackedFits.{FitsRefusal, FitsPart}
 use Rattle.claims.specs.PackedReads.{Reads, ReadsBack}
@@ -18,8 +18,8 @@ reads-word number a b n k m =
     record { number-read = number-word number a b n k m; a-read = a-word number a b n k m; b-read = b-word number a b n k m }
 
 refusal-reads : (number : ℕ) (values : List ℕ) → FitsRefusal number values
-    → Reads (packRefusal number values) number (cond (eqb number listTooShort) (firstOf values) 0) (cond (eqb number listTooShort) 0 (firstOf values))
-refusal-reads number values h = go (eqb number listTooShort) (h .value)
+    → Reads (packRefusal number values) number (cond (eqb number listFault) (firstOf values) 0) (cond (eqb number listFault) 0 (firstOf values))
+refusal-reads number values h = go (eqb number listFault) (h .value)
   where
     v : ℕ
     v = firstOf values

@@ -18,13 +18,13 @@ use Rattle.model.specs.Values.{wordValues, byteValues, Below}
 use Rattle.block_read.specs.BlockRead.{partAt, blockCall}
 use Rattle.calls.specs.Calls.{startCall, grantCall, revokeCall, listCall, decideCall, countCall}
 use Rattle.calls.specs.FileCalls.{writeCall, loadCall, matchCall}
-use Rattle.packing.specs.Pack.{numberValues, aValues, bValues, firstOf, secondOf, listTooShort}
+use Rattle.packing.specs.Pack.{numberValues, aValues, bValues, firstOf, secondOf, listFault}
 
 -- fault 8's value is a, any other fault's b
 pub record FitsRefusal (number : ℕ) (values : List ℕ) : Type 0 where
   pub some : 0 < number
   pub few : number < numberValues
-  pub value : firstOf values < cond (eqb number listTooShort) aValues bValues
+  pub value : firstOf values < cond (eqb number listFault) aValues bValues
 
 abbrev pub Fits : Answer → Type 0
 Fits (accepted values) = firstOf values < aValues

@@ -9,7 +9,7 @@ use mathlib.Core.List.{List}
 use lib.Dec.{eqb}
 use Rattle.model.specs.Answer.{accepted}
 use Rattle.block_read.specs.BlockRead.{partAt}
-use Rattle.packing.specs.Pack.{numberValues, aValues, firstOf, secondOf, packRefusal, pack, packPair, packLength, listTooShort}
+use Rattle.packing.specs.Pack.{numberValues, aValues, firstOf, secondOf, packRefusal, pack, packPair, packLength, listFault}
 use Rattle.c_api.specs.Contract.{packPart}
 use Rattle.claims.specs.PackedFits.{FitsRefusal, Fits, FitsPair, FitsLength, FitsPart}
 
@@ -21,7 +21,7 @@ pub record Reads (x number a b : ℕ) : Type 0 where
 -- a refusal's value is in a with fault 8, in b with any other; what isn't used is 0
 pub record ReadsBack : Type 0 where
   pub refusals : (number : ℕ) (values : List ℕ) → FitsRefusal number values
-      → Reads (packRefusal number values) number (cond (eqb number listTooShort) (firstOf values) 0) (cond (eqb number listTooShort) 0 (firstOf values))
+      → Reads (packRefusal number values) number (cond (eqb number listFault) (firstOf values) 0) (cond (eqb number listFault) 0 (firstOf values))
   pub values : (values : List ℕ) → Fits (accepted values) → Reads (pack (accepted values)) 0 (firstOf values) 0
   pub pairs : (values : List ℕ) → FitsPair (accepted values) → Reads (packPair (accepted values)) 0 (firstOf values) (secondOf values)
   pub lengths : (values : List ℕ) → FitsLength (accepted values) → Reads (packLength (accepted values)) 0 0 (firstOf values)

@@ -12,7 +12,7 @@ pub enum Doors {
 }
 
 // A grant of the file, or none.
-pub enum Entry {
+pub enum Lookup {
     Is(Grant),
     Absent,
 }

@@ -3,14 +3,14 @@ ghost use mathlib.Core.Path.{_≡_};
 ghost use Rattle.grants_file.specs.File.{grantsIn};
 ghost use Rattle.grants_file.specs.FileSets.{Accepted};
 ghost use Rattle.file_contents.specs.Contents.{numberedOf, numberedIn};
-use crate::Entry;
+use crate::Lookup;
 use grants_file::defects::is_wrong;
 use grants_file::grants::grant_in;
 use grants_file::grants::total_in;
 use grants_file::validate::validate;
 
 // The grant of an accepted file with this number.
-fn find_number(file: &[u8], number: u16) -> Entry
+fn find_number(file: &[u8], number: u16) -> Lookup
     requires { ⌜ Accepted (now file) ⌝ }
     ensures { λ r. ⌜ r ≡ numberedOf (grantsIn (now (file .entry))) number ⌝ }
 {
@@ -19,19 +19,19 @@ fn find_number(file: &[u8], number: u16) -> Entry
     while i < total {
         let g = grant_in(file, i);
         if g.number == number {
-            return Entry::Is(g);
+            return Lookup::Is(g);
         }
         i += 1;
     }
-    Entry::Absent
+    Lookup::Absent
 }
 
 // The grant with this number.
-pub fn numbered(file: &[u8], number: u16) -> Entry
+pub fn numbered(file: &[u8], number: u16) -> Lookup
     ensures { λ r. ⌜ r ≡ numberedIn (now (file .entry)) number ⌝ }
 {
     if is_wrong(validate(file)) {
-        return Entry::Absent;
+        return Lookup::Absent;
     }
     find_number(file, number)
 }

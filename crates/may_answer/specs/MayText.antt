@@ -2,7 +2,7 @@
 --   numbered text n                           a text with a number behind it
 --   questionText staff door quarter base      the question, with the day and time of its quarter
 --   decidingText word g base                  the word, the number of the grant that decides, its row under the heads, its times, an empty line
---   decisionText decision base                OPENS or BARRED with that grant, or NO GRANT
+--   verdictText decision base                OPENS or BARRED with that grant, or NO GRANT
 --   mayText staff door quarter base decision  the question and the decision: all that is answered
 -- Rows and times are those of panel/specs/Rows. The sentence that follows a refusal is prose and no part of this text.
 -- Assumes nothing: these are definitions.
@@ -26,11 +26,11 @@ questionText staff door quarter base =
 abbrev pub decidingText : List ℕ → Grant → Base → List ℕ
 decidingText word g base = line (numbered word (g .number)) ++ grantHeads ++ grantRow g ++ line (timesRow g base)
 
-abbrev pub decisionText : Decision → Base → List ℕ
-decisionText (Opens g) base = decidingText (ascii ": OPENS, by grant ") g base
-decisionText (Barred g) base = decidingText (ascii ": BARRED, by grant ") g base
-decisionText None base = ascii ": NO GRANT, do not open\n\n"
-decisionText (Refused f) base = ascii "\n"
+abbrev pub verdictText : Decision → Base → List ℕ
+verdictText (Opens g) base = decidingText (ascii ": OPENS, by grant ") g base
+verdictText (Barred g) base = decidingText (ascii ": BARRED, by grant ") g base
+verdictText None base = ascii ": NO GRANT, do not open\n\n"
+verdictText (Refused f) base = ascii "\n"
 
 abbrev pub mayText : ℕ → ℕ → ℕ → Base → Decision → List ℕ
-mayText staff door quarter base decision = questionText staff door quarter base ++ decisionText decision base
+mayText staff door quarter base decision = questionText staff door quarter base ++ verdictText decision base

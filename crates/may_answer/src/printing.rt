@@ -4,7 +4,7 @@ ghost use mathlib.Core.Path.{_≡_};
 ghost use Prim.Native.Nat.{_+_, _≤_};
 ghost use lib.ListN.{length, take};
 ghost use Rattle.text.specs.Put.{Put, Counts};
-ghost use Rattle.may_answer.specs.MayText.{numbered, questionText, decidingText, decisionText, mayText};
+ghost use Rattle.may_answer.specs.MayText.{numbered, questionText, decidingText, verdictText, mayText};
 use calendar::Base;
 use model::Decision;
 use model::Grant;
@@ -55,7 +55,7 @@ fn put_deciding(out: &mut [u8], at: usize, word: &[u8], g: Grant, base: Base) ->
 
 fn put_decision(out: &mut [u8], at: usize, decision: Decision, base: Base) -> usize
     requires { ⌜ at + 214 ≤ length (now out) ⌝ }
-    ensures { λ r. ⌜ Put (now (out .entry)) at (decisionText decision base) r (now (out .exit)) × (r ≤ at + 214) ⌝ }
+    ensures { λ r. ⌜ Put (now (out .entry)) at (verdictText decision base) r (now (out .exit)) × (r ≤ at + 214) ⌝ }
 {
     match decision {
         Decision::Opens(g) => put_deciding(out, at, b": OPENS, by grant ", g, base),

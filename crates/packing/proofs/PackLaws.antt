@@ -7,7 +7,7 @@ use mathlib.Core.Path.{_≡_}
 use mathlib.Core.List.{List}
 use native.Mathlib.Omega.{arith}
 use borrow.Author.Tests.{eq-eqb, ne-eqb}
-use Rattle.packing.specs.Pack.{word, firstOf, packRefusal, listTooShort}
+use Rattle.packing.specs.Pack.{word, firstOf, packRefusal, listFault}
 
 module _ (number a b : ℕ) (n : number < 256) (k : a < 16777216) (m : b < 4294967296) where
   pub number-word : word number a b % 256 ≡ number
@@ -23,8 +23,8 @@ module _ (number a b : ℕ) (n : number < 256) (k : a < 16777216) (m : b < 42949
   b-word = omega arith
 
 module _ (number : ℕ) (values : List ℕ) {n v r : ℕ} (e : n ≡ number) (f : v ≡ firstOf values) where
-  pub refusal-list : n ≡ listTooShort → r ≡ word n v 0 → r ≡ packRefusal number values
-  refusal-list is p = rw (← e, ← f, eq-eqb n listTooShort is) p
+  pub refusal-list : n ≡ listFault → r ≡ word n v 0 → r ≡ packRefusal number values
+  refusal-list is p = rw (← e, ← f, eq-eqb n listFault is) p
 
-  pub refusal-other : (n ≡ listTooShort → ⊥) → r ≡ word n 0 v → r ≡ packRefusal number values
-  refusal-other other p = rw (← e, ← f, ne-eqb n listTooShort other) p
+  pub refusal-other : (n ≡ listFault → ⊥) → r ≡ word n 0 v → r ≡ packRefusal number values
+  refusal-other other p = rw (← e, ← f, ne-eqb n listFault other) p

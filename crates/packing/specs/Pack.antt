@@ -36,11 +36,11 @@ abbrev pub secondOf : List ℕ → ℕ
 secondOf values = getD values 1 0
 
 -- fault 8's number: its value is a count
-abbrev pub listTooShort : ℕ
-listTooShort = faultNumber (ListTooShort 0)
+abbrev pub listFault : ℕ
+listFault = faultNumber (ListTooShort 0)
 
 abbrev pub packRefusal : ℕ → List ℕ → ℕ
-packRefusal number values = cond (eqb number listTooShort) (word number (firstOf values) 0) (word number 0 (firstOf values))
+packRefusal number values = cond (eqb number listFault) (word number (firstOf values) 0) (word number 0 (firstOf values))
 
 abbrev pub pack : Answer → ℕ
 pack (accepted values) = word 0 (firstOf values) 0

@@ -5,7 +5,7 @@
 --   momentNote base q             the day and time at which a quarter starts, to stand behind its number
 --   timesRow g base               from when until when the grant holds
 --   shownBase base                the base day that these count from: one of a year above 9999, which has no four digits, counts as unknown
---   endOf g                       the quarter at whose start the grant ends: the one after its last, as both ends belong to it
+--   untilOf g                       the quarter at whose start the grant ends: the one after its last, as both ends belong to it
 -- Assumes nothing: these are definitions.
 use Prim.Native.Nat.{ℕ, _+_}
 use mathlib.Core.Bool.{cond}
@@ -29,8 +29,8 @@ unfoldable pub shownBase : Base → Base
 shownBase Unknown = Unknown
 shownBase (Day d) = cond (leb (d .year) lastYear) (Day d) Unknown
 
-abbrev pub endOf : Grant → ℕ
-endOf g = g .bounds .«quarter_to» + 1
+abbrev pub untilOf : Grant → ℕ
+untilOf g = g .bounds .«quarter_to» + 1
 
 abbrev pub kindText : Kind → List ℕ
 kindText Bars = ascii "bars"
@@ -52,7 +52,7 @@ noteAfter (Day d) q = ascii " (" ++ momentText d q ++ ascii ")"
 
 abbrev pub timesFrom : Base → Grant → List ℕ
 timesFrom Unknown g = []
-timesFrom (Day d) g = line (ascii "from " ++ momentText d (g .bounds .«quarter_from») ++ ascii " until " ++ momentText d (endOf g))
+timesFrom (Day d) g = line (ascii "from " ++ momentText d (g .bounds .«quarter_from») ++ ascii " until " ++ momentText d (untilOf g))
 
 abbrev pub grantHeads : List ℕ
 grantHeads = line (ascii "  number    rank   staff      to   doors      to quarter      to  does")
@@ -66,7 +66,7 @@ touchingRow g precedence base =
     line
     (columns (g .number ∷ g .rank ∷ b .«staff_from» ∷ b .«staff_to» ∷ b .«quarter_to» ∷ [])
     ++ ascii "  "
-    ++ momentColumn (shownBase base) (endOf g)
+    ++ momentColumn (shownBase base) (untilOf g)
     ++ ascii "  "
     ++ kindText (g .kind)
     ++ precedenceText precedence)

@@ -30,7 +30,7 @@ use Rattle.question.specs.Number.{typedNumber}
 use Rattle.question.specs.Day.{dayForm, dateOf, dayIn}
 use Rattle.question.specs.Quarter.{momentForm, sameDate, daysFrom, quarterAt, timeOf, quarterOf}
 use Rattle.question.specs.Word.{begins}
-use Rattle.question.specs.Question.{marked, timed, plainQuestion, timedQuestion, questionOf}
+use Rattle.question.specs.Question.{hasMarks, timed, plainQuestion, timedQuestion, questionOf}
 
 abbrev on : ℕ → ℕ → ℕ → Date
 on y m d = record { year = y; month = m; day = d }
@@ -89,7 +89,7 @@ pub question-cases : Asks newYear "who 12 40" (question.Who 12 40)
     × Asks newYear "" question.More
     × Asks newYear "help" question.Help
     × Asks newYear "quit" question.Quit
-unfolding questionOf timed marked plainQuestion timedQuestion begins sameNumbers numbers fields quarterOf momentForm timeOf quarterAt
+unfolding questionOf timed hasMarks plainQuestion timedQuestion begins sameNumbers numbers fields quarterOf momentForm timeOf quarterAt
     daysFrom sameDate dateAfter nextDay dayIn dayForm dateOf isDate monthDays leapYear typedNumber decimal isNumber valueAfter every
 question-cases = (refl, refl, refl, refl, refl, refl, refl, refl, refl, refl)
 
@@ -110,6 +110,6 @@ badLines =
     ∷ "who 12 40 2026-01-01 10:00" ∷ "may 12 2026-01-01 10:00" ∷ "2026-01-01 10:00" ∷ "who 12 2026-01-01 24:00" ∷ []
 
 pub bad-questions : every (λ t. isBad (questionOf newYear (ascii t))) badLines ≡ true
-unfolding questionOf timed marked plainQuestion timedQuestion begins sameNumbers numbers fields quarterOf momentForm timeOf quarterAt
+unfolding questionOf timed hasMarks plainQuestion timedQuestion begins sameNumbers numbers fields quarterOf momentForm timeOf quarterAt
     daysFrom sameDate dateAfter nextDay dayIn dayForm dateOf isDate monthDays leapYear typedNumber decimal isNumber valueAfter every
 bad-questions = refl

@@ -30,7 +30,7 @@ use Rattle.question.specs.declared.Question.{Question}
 use Rattle.question.specs.declared.Question.the-variants as question
 use Rattle.question.specs.Quarter.{quarterOf}
 use Rattle.question.specs.Word.{begins}
-use Rattle.question.specs.Question.{lineBytes, marked, timed, ending, front, afterWord, questionBy, whoOf, mayOf, whoAt, mayAt}
+use Rattle.question.specs.Question.{lineBytes, hasMarks, timed, ending, front, afterWord, questionBy, whoOf, mayOf, whoAt, mayAt}
 use Rattle.question.specs.Question.{plainQuestion, timedQuestion, questionOf}
 use Rattle.question.proofs.WordLaws.{begins-length}
 
@@ -131,7 +131,7 @@ module _ (bs : List ℕ) where
   is-ending h = let n : length bs - (length bs - 16) ≡ 16 = omega arith in rw n
 
   pub form-marked : 17 ≤ length bs → getD bs (length bs - 17) 0 ≡ blank
-      → marked (take (length bs - (length bs - 16)) (drop (length bs - 16) bs)) ≡ timed bs
+      → hasMarks (take (length bs - (length bs - 16)) (drop (length bs - 16) bs)) ≡ timed bs
   unfolding timed
   form-marked h e = rw (is-ending h, le-leb 17 (length bs) h, eq-eqb (getD bs (length bs - 17) 0) blank e)
 
@@ -140,7 +140,7 @@ module _ (bs : List ℕ) where
   timed-length e =
       let a = leb 17 (length bs) in
       let b = eqb (getD bs (length bs - 17) 0) blank in
-      leb-true 17 (length bs) (and-eq-true-iff a b .0 (and-eq-true-iff (a && b) (marked (ending bs)) .0 e .0) .0)
+      leb-true 17 (length bs) (and-eq-true-iff a b .0 (and-eq-true-iff (a && b) (hasMarks (ending bs)) .0 e .0) .0)
 
   pub line-long : (b : Base) → lineBytes < length bs → question.Bad ≡ questionOf b bs
   unfolding questionOf

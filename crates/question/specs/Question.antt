@@ -2,7 +2,7 @@
 --   `who DOOR QUARTER`, `may STAFF DOOR QUARTER`, in numbers with one blank between them; a day and time, `YYYY-MM-DD HH:MM`, may stand for QUARTER;
 --   an empty line, `help`, `quit`.
 --   ending bs            the last sixteen bytes of a line
---   marked bs            the dashes and the colon of a day and time are in their places
+--   hasMarks bs            the dashes and the colon of a day and time are in their places
 --   timed bs             the line ends in a blank and what has the form of a day and time
 --   front bs             such a line without the blank and the day and time
 --   afterWord bs         the fields after a word of three letters and a blank
@@ -41,11 +41,11 @@ lineBytes = 4096
 abbrev pub ending : List ℕ → List ℕ
 ending bs = part (length bs - momentBytes) momentBytes bs
 
-unfoldable pub marked : List ℕ → Bool
-marked bs = eqb (getD bs 4 0) dash && eqb (getD bs 7 0) dash && eqb (getD bs 13 0) colon
+unfoldable pub hasMarks : List ℕ → Bool
+hasMarks bs = eqb (getD bs 4 0) dash && eqb (getD bs 7 0) dash && eqb (getD bs 13 0) colon
 
 unfoldable pub timed : List ℕ → Bool
-timed bs = leb 17 (length bs) && eqb (getD bs (length bs - 17) 0) blank && marked (ending bs)
+timed bs = leb 17 (length bs) && eqb (getD bs (length bs - 17) 0) blank && hasMarks (ending bs)
 
 abbrev pub front : List ℕ → List ℕ
 front bs = take (length bs - 17) bs

@@ -6,7 +6,7 @@ ghost use Rattle.text.specs.declared.Width.the-variants.{Word};
 ghost use Rattle.text.specs.Numbers.{numbers};
 ghost use Rattle.text.specs.Scan.{fieldsFrom};
 ghost use Rattle.calendar.specs.Moment.{momentBytes};
-ghost use Rattle.question.specs.Question.{marked, timed, questionBy, whoOf, mayOf, whoAt, mayAt};
+ghost use Rattle.question.specs.Question.{hasMarks, timed, questionBy, whoOf, mayOf, whoAt, mayAt};
 ghost use Rattle.question.specs.Question.{plainQuestion, timedQuestion, questionOf};
 use crate::Quarter;
 use crate::Question;
@@ -124,7 +124,7 @@ fn timed_question(quarter: u16, line: &[u8]) -> Question
 // Whether a text of sixteen bytes has the dashes and the colon of a day and time.
 fn has_marks(text: &[u8]) -> bool
     requires { ⌜ length (now text) ≡ momentBytes ⌝ }
-    ensures { λ r. ⌜ r ≡ marked (now (text .entry)) ⌝ }
+    ensures { λ r. ⌜ r ≡ hasMarks (now (text .entry)) ⌝ }
 {
     if text[4] != b'-' {
         return false;

@@ -18,7 +18,7 @@ use Rattle.slip_session.specs.declared.Slip.the-variants as slip
 use Rattle.text.specs.declared.Width.the-variants.{Word}
 use Rattle.text.specs.Width.{valuesOf}
 use Rattle.text.specs.Fields.{fields}
-use Rattle.slip_session.specs.Slip.{grantWidths, revokeWidths, boxWidths, decideWidths, boxAt, grantOf, revokeOf, listOf, decideOf, countOf}
+use Rattle.slip_session.specs.Slip.{grantWidths, revokeWidths, boxWidths, decideWidths, boxAt, grantSlip, revokeSlip, listSlip, decideSlip, countSlip}
 use Rattle.slip_session.specs.Slip.{slipBy, letterSlip, fieldsSlip, parseLine}
 use Rattle.text.specs.Numbers.{numbers}
 use Rattle.slip_session.proofs.SlipLaws.{numbers-fit}
@@ -51,10 +51,10 @@ module _ (lent : List ℕ) where
   fits-by call (some vs) each = each vs
 
   module _ (fs : List (List ℕ)) where
-    grant-fits : SlipFits (slipBy grantOf (numbers grantWidths fs))
+    grant-fits : SlipFits (slipBy grantSlip (numbers grantWidths fs))
     grant-fits = go (numbers grantWidths fs) refl
       where
-        go : (o : Option (List ℕ)) → numbers grantWidths fs ≡ o → SlipFits (slipBy grantOf o)
+        go : (o : Option (List ℕ)) → numbers grantWidths fs ≡ o → SlipFits (slipBy grantSlip o)
         go none e = tt
         go (some vs) e = record { number = fit 0 (lit< tt); rank = fit 1 (lit< tt); bounds = bounds }
           where
@@ -73,10 +73,10 @@ module _ (lent : List ℕ) where
     unfolding letterSlip
     letter-fits b =
         fits-either (eqb b (code "G")) _ _ grant-fits
-        (fits-either (eqb b (code "R")) _ _ (fits-by revokeOf (numbers revokeWidths fs) (λ vs. tt))
-        (fits-either (eqb b (code "L")) _ _ (fits-by listOf (numbers boxWidths fs) (λ vs. tt))
-        (fits-either (eqb b (code "D")) _ _ (fits-by decideOf (numbers decideWidths fs) (λ vs. tt))
-        (fits-either (eqb b (code "C")) _ slip.Bad (fits-by countOf (numbers [] fs) (λ vs. tt)) tt))))
+        (fits-either (eqb b (code "R")) _ _ (fits-by revokeSlip (numbers revokeWidths fs) (λ vs. tt))
+        (fits-either (eqb b (code "L")) _ _ (fits-by listSlip (numbers boxWidths fs) (λ vs. tt))
+        (fits-either (eqb b (code "D")) _ _ (fits-by decideSlip (numbers decideWidths fs) (λ vs. tt))
+        (fits-either (eqb b (code "C")) _ slip.Bad (fits-by countSlip (numbers [] fs) (λ vs. tt)) tt))))
 
   fields-fit : (fs : List (List ℕ)) → SlipFits (fieldsSlip fs)
   unfolding fieldsSlip

@@ -25,7 +25,7 @@ use Rattle.text.specs.Ascii.{blank}
 use Rattle.text.specs.Width.{valuesOf}
 use Rattle.text.specs.Fields.{fields, withFirst}
 use Rattle.text.specs.Decimal.{decimal, isNumber, valueAfter}
-use Rattle.slip_session.specs.Slip.{slipBy, boxAt, grantOf, revokeOf, listOf, decideOf, letterSlip, fieldsSlip, parseLine}
+use Rattle.slip_session.specs.Slip.{slipBy, boxAt, grantSlip, revokeSlip, listSlip, decideSlip, letterSlip, fieldsSlip, parseLine}
 use Rattle.text.specs.Numbers.{numbers, valueAnd}
 use Rattle.text.specs.Scan.{fieldsFrom, numbersIn}
 use Rattle.text.proofs.FieldLaws.{fields-blank, fields-other}
@@ -49,17 +49,17 @@ box-taken n k vs h =
       getD-take n vs (k + 5) 0 (omega arith),
     )
 
-pub grant-taken : (vs : List ℕ) → grantOf (take 9 vs) ≡ grantOf vs
+pub grant-taken : (vs : List ℕ) → grantSlip (take 9 vs) ≡ grantSlip vs
 grant-taken vs =
     rw (getD-take 9 vs 0 0 (lit< tt), getD-take 9 vs 1 0 (lit< tt), getD-take 9 vs 2 0 (lit< tt)) (rw (box-taken 9 3 vs (lit< tt)))
 
-pub revoke-taken : (vs : List ℕ) → revokeOf (take 1 vs) ≡ revokeOf vs
+pub revoke-taken : (vs : List ℕ) → revokeSlip (take 1 vs) ≡ revokeSlip vs
 revoke-taken vs = rw (getD-take 1 vs 0 0 (lit< tt))
 
-pub list-taken : (vs : List ℕ) → listOf (take 6 vs) ≡ listOf vs
+pub list-taken : (vs : List ℕ) → listSlip (take 6 vs) ≡ listSlip vs
 list-taken vs = rw (box-taken 6 0 vs (lit< tt))
 
-pub decide-taken : (vs : List ℕ) → decideOf (take 3 vs) ≡ decideOf vs
+pub decide-taken : (vs : List ℕ) → decideSlip (take 3 vs) ≡ decideSlip vs
 decide-taken vs = rw (getD-take 3 vs 0 0 (lit< tt), getD-take 3 vs 1 0 (lit< tt), getD-take 3 vs 2 0 (lit< tt))
 
 none-some : {A : Type 0} {x : A} → none ≡ some x → ⊥

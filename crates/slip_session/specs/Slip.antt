@@ -1,5 +1,5 @@
 -- The meaning of a line (document 01, "Marked cases": the slip program).
---   grantOf .. countOf    the call of a letter's values
+--   grantSlip .. countSlip    the call of a letter's values
 --   letterSlip b fs       the call of the letter b with the fields fs after it
 --   parseLine bs          the call of a line, without its newline; Bad for a line of any other form, an empty one too
 -- Assumes nothing: these are definitions.
@@ -45,20 +45,20 @@ boxAt k vs =
       «quarter_to» = getD vs (k + 5) 0;
     }
 
-abbrev pub grantOf : List ℕ → Slip
-grantOf vs = slip.Grant (getD vs 0 0) (getD vs 1 0) (getD vs 2 0) (boxAt 3 vs)
+abbrev pub grantSlip : List ℕ → Slip
+grantSlip vs = slip.Grant (getD vs 0 0) (getD vs 1 0) (getD vs 2 0) (boxAt 3 vs)
 
-abbrev pub revokeOf : List ℕ → Slip
-revokeOf vs = slip.Revoke (getD vs 0 0)
+abbrev pub revokeSlip : List ℕ → Slip
+revokeSlip vs = slip.Revoke (getD vs 0 0)
 
-abbrev pub listOf : List ℕ → Slip
-listOf vs = slip.List (boxAt 0 vs)
+abbrev pub listSlip : List ℕ → Slip
+listSlip vs = slip.List (boxAt 0 vs)
 
-abbrev pub decideOf : List ℕ → Slip
-decideOf vs = slip.Decide (getD vs 0 0) (getD vs 1 0) (getD vs 2 0)
+abbrev pub decideSlip : List ℕ → Slip
+decideSlip vs = slip.Decide (getD vs 0 0) (getD vs 1 0) (getD vs 2 0)
 
-abbrev pub countOf : List ℕ → Slip
-countOf vs = slip.Count
+abbrev pub countSlip : List ℕ → Slip
+countSlip vs = slip.Count
 
 -- the call that the values make, Bad where there are none
 abbrev pub slipBy : (List ℕ → Slip) → Option (List ℕ) → Slip
@@ -67,11 +67,11 @@ slipBy call (some vs) = call vs
 
 unfoldable pub letterSlip : ℕ → List (List ℕ) → Slip
 letterSlip b fs =
-    cond (eqb b (code "G")) (slipBy grantOf (numbers grantWidths fs))
-    (cond (eqb b (code "R")) (slipBy revokeOf (numbers revokeWidths fs))
-    (cond (eqb b (code "L")) (slipBy listOf (numbers boxWidths fs))
-    (cond (eqb b (code "D")) (slipBy decideOf (numbers decideWidths fs))
-    (cond (eqb b (code "C")) (slipBy countOf (numbers [] fs)) slip.Bad))))
+    cond (eqb b (code "G")) (slipBy grantSlip (numbers grantWidths fs))
+    (cond (eqb b (code "R")) (slipBy revokeSlip (numbers revokeWidths fs))
+    (cond (eqb b (code "L")) (slipBy listSlip (numbers boxWidths fs))
+    (cond (eqb b (code "D")) (slipBy decideSlip (numbers decideWidths fs))
+    (cond (eqb b (code "C")) (slipBy countSlip (numbers [] fs)) slip.Bad))))
 
 -- the first field is exactly one letter
 unfoldable pub fieldsSlip : List (List ℕ) → Slip

@@ -4,7 +4,7 @@ ghost use mathlib.Core.List.{[]};
 ghost use Prim.Native.Nat.{_<_, _≤_};
 ghost use lib.ListN.{length, getD};
 ghost use Rattle.slip_session.specs.Slip.{grantWidths, revokeWidths, boxWidths, decideWidths, boxAt};
-ghost use Rattle.slip_session.specs.Slip.{grantOf, revokeOf, listOf, decideOf, countOf};
+ghost use Rattle.slip_session.specs.Slip.{grantSlip, revokeSlip, listSlip, decideSlip, countSlip};
 ghost use Rattle.slip_session.specs.Slip.{slipBy, letterSlip, parseLine};
 ghost use Rattle.text.specs.Numbers.{numbers};
 ghost use Rattle.text.specs.Scan.{fieldsFrom};
@@ -47,7 +47,7 @@ fn box_at(values: [u16; 9], k: usize) -> Box
 }
 
 fn grant_slip(line: &[u8]) -> Slip
-    ensures { λ r. ⌜ r ≡ slipBy grantOf (numbers grantWidths (fieldsFrom (now (line .entry)) 2)) ⌝ }
+    ensures { λ r. ⌜ r ≡ slipBy grantSlip (numbers grantWidths (fieldsFrom (now (line .entry)) 2)) ⌝ }
 {
     let n = read_numbers(line, NUMBERS, GRANT, 9);
     if !n.good {
@@ -63,7 +63,7 @@ fn grant_slip(line: &[u8]) -> Slip
 }
 
 fn revoke_slip(line: &[u8]) -> Slip
-    ensures { λ r. ⌜ r ≡ slipBy revokeOf (numbers revokeWidths (fieldsFrom (now (line .entry)) 2)) ⌝ }
+    ensures { λ r. ⌜ r ≡ slipBy revokeSlip (numbers revokeWidths (fieldsFrom (now (line .entry)) 2)) ⌝ }
 {
     let n = read_numbers(line, NUMBERS, WORDS, 1);
     if !n.good {
@@ -74,7 +74,7 @@ fn revoke_slip(line: &[u8]) -> Slip
 }
 
 fn list_slip(line: &[u8]) -> Slip
-    ensures { λ r. ⌜ r ≡ slipBy listOf (numbers boxWidths (fieldsFrom (now (line .entry)) 2)) ⌝ }
+    ensures { λ r. ⌜ r ≡ slipBy listSlip (numbers boxWidths (fieldsFrom (now (line .entry)) 2)) ⌝ }
 {
     let n = read_numbers(line, NUMBERS, WORDS, 6);
     if !n.good {
@@ -85,7 +85,7 @@ fn list_slip(line: &[u8]) -> Slip
 }
 
 fn decide_slip(line: &[u8]) -> Slip
-    ensures { λ r. ⌜ r ≡ slipBy decideOf (numbers decideWidths (fieldsFrom (now (line .entry)) 2)) ⌝ }
+    ensures { λ r. ⌜ r ≡ slipBy decideSlip (numbers decideWidths (fieldsFrom (now (line .entry)) 2)) ⌝ }
 {
     let n = read_numbers(line, NUMBERS, WORDS, 3);
     if !n.good {
@@ -100,7 +100,7 @@ fn decide_slip(line: &[u8]) -> Slip
 }
 
 fn count_slip(line: &[u8]) -> Slip
-    ensures { λ r. ⌜ r ≡ slipBy countOf (numbers [] (fieldsFrom (now (line .entry)) 2)) ⌝ }
+    ensures { λ r. ⌜ r ≡ slipBy countSlip (numbers [] (fieldsFrom (now (line .entry)) 2)) ⌝ }
 {
     let n = read_numbers(line, NUMBERS, WORDS, 0);
     if !n.good {

@@ -18,8 +18,8 @@ use lib.Seq.{drop-cons}
 use Rattle.lists.specs.Tests.{every}
 use Rattle.text.specs.declared.Width.{Width}
 use Rattle.text.specs.declared.Width.the-variants.{Byte, Word}
-use Rattle.text.specs.declared.Field.{Field}
-use Rattle.text.specs.declared.Field.the-variants as field
+use Rattle.text.specs.declared.FieldRead.{FieldRead}
+use Rattle.text.specs.declared.FieldRead.the-variants as field
 use Rattle.text.specs.Ascii.{blank}
 use Rattle.text.specs.Width.{valuesOf}
 use Rattle.text.specs.Decimal.{isDigit, isNumber, valueAfter, decimal, zeroDigit, nineDigit}
@@ -28,11 +28,11 @@ use Rattle.text.specs.Scan.{firstField, fieldBy, fieldAt}
 use Rattle.text.proofs.FieldLaws.{first-blank, first-other, value-after-grows}
 
 -- the field whose other bytes are f
-abbrev goingOn : Width → List ℕ → ℕ → ℕ → Field
+abbrev goingOn : Width → List ℕ → ℕ → ℕ → FieldRead
 goingOn w f at v =
     cond (every isDigit f && ltb (valueAfter v f) (valuesOf w)) (field.Number (valueAfter v f) (at + length f + 1)) field.Bad
 
-unfoldable pub fieldGoing : Width → List ℕ → ℕ → ℕ → Field
+unfoldable pub fieldGoing : Width → List ℕ → ℕ → ℕ → FieldRead
 fieldGoing w bs at v = goingOn w (firstField bs) at v
 
 -- the same, as the definition says it

@@ -16,7 +16,7 @@ use lib.Dec.{ltb}
 use lib.ListN.{length, getD, take, drop, set, drop-of-length-le}
 use lib.Seq.{drop-cons, take-suc-set, length-take-le, getD-take}
 use Rattle.text.specs.declared.Width.{Width}
-use Rattle.text.specs.declared.Field.the-variants as field
+use Rattle.text.specs.declared.FieldRead.the-variants as field
 use Rattle.text.specs.Width.{valuesOf}
 use Rattle.text.specs.Decimal.{decimal}
 use Rattle.text.specs.Numbers.{numbers, valueAnd}

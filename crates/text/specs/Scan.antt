@@ -11,8 +11,8 @@ use mathlib.Core.Option.{Option, none, some}
 use lib.Dec.{leb}
 use lib.ListN.{length, getD, take, drop}
 use Rattle.text.specs.declared.Width.{Width}
-use Rattle.text.specs.declared.Field.{Field}
-use Rattle.text.specs.declared.Field.the-variants as field
+use Rattle.text.specs.declared.FieldRead.{FieldRead}
+use Rattle.text.specs.declared.FieldRead.the-variants as field
 use Rattle.text.specs.declared.Numbers.{Numbers}
 use Rattle.text.specs.Width.{valuesOf}
 use Rattle.text.specs.Decimal.{decimal}
@@ -21,11 +21,11 @@ use Rattle.text.specs.Fields.{fields}
 abbrev pub firstField : List ℕ → List ℕ
 firstField bs = getD (fields bs) 0 []
 
-abbrev pub fieldBy : Option ℕ → ℕ → Field
+abbrev pub fieldBy : Option ℕ → ℕ → FieldRead
 fieldBy none next = field.Bad
 fieldBy (some v) next = field.Number v next
 
-unfoldable pub fieldAt : Width → List ℕ → ℕ → Field
+unfoldable pub fieldAt : Width → List ℕ → ℕ → FieldRead
 fieldAt w bs at = let f = firstField (drop at bs) in fieldBy (decimal (valuesOf w) f) (at + length f + 1)
 
 unfoldable pub fieldsFrom : List ℕ → ℕ → List (List ℕ)

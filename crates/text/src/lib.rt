@@ -11,7 +11,7 @@ pub enum Width {
 }
 
 // What a field of a line is: a number, with the place after the byte that ends it, or no number that fits.
-pub enum Field {
+pub enum FieldRead {
     Number { value: u16, next: usize },
     Bad,
 }

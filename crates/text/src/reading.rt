@@ -7,7 +7,7 @@ ghost use lib.ListN.{length, take};
 ghost use Rattle.text.specs.Width.{valuesOf};
 ghost use Rattle.text.specs.Numbers.{numbers};
 ghost use Rattle.text.specs.Scan.{fieldAt, fieldsFrom, numbersIn};
-use crate::Field;
+use crate::FieldRead;
 use crate::Numbers;
 use crate::Width;
 
@@ -36,28 +36,28 @@ fn values_of(w: Width) -> u32
 }
 
 // A field's number, if its value is one of the width's.
-fn within(value: u32, w: Width, next: usize) -> Field
-    ensures { λ r. ⌜ r ≡ cond (ltb value (valuesOf w)) (Field.Number value next) Field.Bad ⌝ }
+fn within(value: u32, w: Width, next: usize) -> FieldRead
+    ensures { λ r. ⌜ r ≡ cond (ltb value (valuesOf w)) (FieldRead.Number value next) FieldRead.Bad ⌝ }
 {
     if values_of(w) <= value {
-        return Field::Bad;
+        return FieldRead::Bad;
     }
-    Field::Number {
+    FieldRead::Number {
         value: value as u16,
         next,
     }
 }
 
 // The field that starts at a place. A value above every width's ends the reading, so that no number of digits is too many.
-fn read_field(line: &[u8], from: usize, w: Width) -> Field
+fn read_field(line: &[u8], from: usize, w: Width) -> FieldRead
     requires { ⌜ from ≤ length (now line) ⌝ }
     ensures { λ r. ⌜ r ≡ fieldAt w (now (line .entry)) from ⌝ }
 {
     if line.len() == from {
-        return Field::Bad;
+        return FieldRead::Bad;
     }
     if line[from] == BLANK {
-        return Field::Bad;
+        return FieldRead::Bad;
     }
     let mut value: u32 = 0;
     let mut at = from;
@@ -67,14 +67,14 @@ fn read_field(line: &[u8], from: usize, w: Width) -> Field
             return within(value, w, at + 1);
         }
         if b < b'0' {
-            return Field::Bad;
+            return FieldRead::Bad;
         }
         if b'9' < b {
-            return Field::Bad;
+            return FieldRead::Bad;
         }
         let more = value * 10 + (wide(b) - 48);
         if HIGHEST < more {
-            return Field::Bad;
+            return FieldRead::Bad;
         }
         value = more;
         at += 1;
@@ -98,7 +98,7 @@ pub fn read_numbers(line: &[u8], from: usize, widths: [Width; 9], count: usize) 
             };
         }
         let w = widths[i];
-        let Field::Number { value, next } = read_field(line, at, w) else {
+        let FieldRead::Number { value, next } = read_field(line, at, w) else {
             return Numbers {
                 good: false,
                 values,

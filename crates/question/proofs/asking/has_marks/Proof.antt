@@ -1,7 +1,7 @@
 -- `asking::has_marks` meets its contract: the tests of the definition. Assumes nothing.
 use borrow.Author.Needs.{needs}
 use borrow.Author.Tests.{eq-eqb, ne-eqb}
-use Rattle.question.specs.Question.{marked}
+use Rattle.question.specs.Question.{hasMarks}
 use Rattle.question.proofs.asking.has_marks.Statement.{statement}
 use Rattle.question.proofs.asking.has_marks.Tie as tie
 
@@ -9,21 +9,21 @@ shared-slice-read-if1 : tie.Need-shared-slice-read-if1
 shared-slice-read-if1 c = search needs
 
 returns : tie.Need-returns
-unfolding marked
+unfolding hasMarks
 returns c = rw (ne-eqb _ _ (c .if1 .taken))
 
 shared-slice-read-if2 : tie.Need-shared-slice-read-if2
 shared-slice-read-if2 c = search needs
 
 returns-2 : tie.Need-returns-2
-unfolding marked
+unfolding hasMarks
 returns-2 c = rw (eq-eqb _ _ (c .before .before .if1 .left), ne-eqb _ _ (c .if2 .taken))
 
 shared-slice-read-result : tie.Need-shared-slice-read-result
 shared-slice-read-result c = search needs
 
 returns-3 : tie.Need-returns-3
-unfolding marked
+unfolding hasMarks
 returns-3 c = rw (eq-eqb _ _ (c .before .before .before .if1 .left), eq-eqb _ _ (c .before .if2 .left))
 
 pub has-marks-spec : {M : Type 1} → statement M

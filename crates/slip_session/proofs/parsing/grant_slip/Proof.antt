@@ -1,7 +1,7 @@
 -- `reading::grant_slip` meets its contract. Assumes nothing.
 use borrow.Author.Tests.{not-true, not-false}
 use mathlib.Core.Path.{sym, _∙_}
-use Rattle.slip_session.specs.Slip.{grantOf, grantWidths}
+use Rattle.slip_session.specs.Slip.{grantSlip, grantWidths}
 use Rattle.slip_session.proofs.SlipLaws.{slip-bad, slip-good, grant-taken, read-fit}
 use lib.Dec.{lit<}
 use Rattle.text.specs.declared.Width.the-variants.{Byte}
@@ -13,7 +13,7 @@ read-numbers-requires : tie.Need-read-numbers-requires
 read-numbers-requires c κs = search needs
 
 returns : tie.Need-returns
-returns c = let n = c .before .before .read-numbers in slip-bad grantOf (n .result) 9 _ (n .ensures) (not-true _ (c .if1 .taken))
+returns c = let n = c .before .before .read-numbers in slip-bad grantSlip (n .result) 9 _ (n .ensures) (not-true _ (c .if1 .taken))
 
 array-read-t17 : tie.Need-array-read-t17
 array-read-t17 c = search needs
@@ -41,7 +41,7 @@ returns-2 : tie.Need-returns-2
 returns-2 c =
     let n = c .before .before .before .before .read-numbers in
     rw (c .box-at .ensures)
-    (sym (grant-taken (n .result .values)) ∙ slip-good grantOf (n .result) 9 _ (n .ensures) (not-false _ (c .before .before .if1 .left)))
+    (sym (grant-taken (n .result .values)) ∙ slip-good grantSlip (n .result) 9 _ (n .ensures) (not-false _ (c .before .before .if1 .left)))
 
 pub grant-slip-spec : {M : Type 1} → statement M
 grant-slip-spec =
