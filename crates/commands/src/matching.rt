@@ -15,7 +15,7 @@ use console::status::answered;
 use file_calls::matching::match_file;
 use file_calls::write::write;
 use file_contents::Doors;
-use file_contents::Lookup;
+use file_contents::GrantLookup;
 use file_contents::door_range::doors_of;
 use file_contents::lookup::numbered;
 use grants_file::layout::MAX_BYTES;
@@ -24,11 +24,11 @@ use model::Written;
 use pool::layout::MAX_WORDS;
 
 // One side's grant of the number, whole, or that it has none.
-fn say_side(out: Stream, side: &[u8], entry: Lookup) -> Stream {
+fn say_side(out: Stream, side: &[u8], entry: GrantLookup) -> Stream {
     let named = put(out, side);
     match entry {
-        Lookup::Is(g) => say_grant(say_heads(put(named, b"\n")), g),
-        Lookup::Absent => put(named, b" absent\n"),
+        GrantLookup::Is(g) => say_grant(say_heads(put(named, b"\n")), g),
+        GrantLookup::Absent => put(named, b" absent\n"),
     }
 }
 

@@ -12,7 +12,7 @@ use lib.ListN.{drop, drop-of-length-le}
 use borrow.Author.Tests.{eq-eqb, ne-eqb}
 use Rattle.model.specs.declared.Grant.{Grant}
 use Rattle.grants_file.specs.declared.Defect.{Defect}
-use Rattle.file_contents.specs.declared.Lookup.the-variants.{Is, Absent}
+use Rattle.file_contents.specs.declared.GrantLookup.the-variants.{Is, Absent}
 use Rattle.grants_file.specs.File.{blocksIn, totalIn, grantsIn}
 use Rattle.grants_file.specs.Defects.{isWrong, defectIn}
 use Rattle.grants_file.specs.FileSets.{Accepted}

@@ -14,8 +14,8 @@ use Rattle.model.specs.declared.Grant.{Grant}
 use Rattle.model.specs.Interval.{holds}
 use Rattle.file_contents.specs.declared.Doors.{Doors}
 use Rattle.file_contents.specs.declared.Doors.the-variants.{Are, Unknown}
-use Rattle.file_contents.specs.declared.Lookup.{Lookup}
-use Rattle.file_contents.specs.declared.Lookup.the-variants.{Is, Absent}
+use Rattle.file_contents.specs.declared.GrantLookup.{GrantLookup}
+use Rattle.file_contents.specs.declared.GrantLookup.the-variants.{Is, Absent}
 use Rattle.grants_file.specs.File.{doorsIn, grantsIn}
 use Rattle.grants_file.specs.Defects.{isWrong, defectIn}
 
@@ -28,9 +28,9 @@ doorsGiven f = ifSound f (Are (doorsIn f .from) (doorsIn f .to)) Unknown
 abbrev pub hasDoor : List ℕ → ℕ → Bool
 hasDoor f d = ifSound f (holds (doorsIn f) d) false
 
-unfoldable pub numberedOf : List Grant → ℕ → Lookup
+unfoldable pub numberedOf : List Grant → ℕ → GrantLookup
 numberedOf [] n = Absent
 numberedOf (g ∷ gs) n = cond (eqb (g .number) n) (Is g) (numberedOf gs n)
 
-abbrev pub numberedIn : List ℕ → ℕ → Lookup
+abbrev pub numberedIn : List ℕ → ℕ → GrantLookup
 numberedIn f n = ifSound f (numberedOf (grantsIn f) n) Absent

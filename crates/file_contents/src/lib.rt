@@ -12,7 +12,7 @@ pub enum Doors {
 }
 
 // A grant of the file, or none.
-pub enum Lookup {
+pub enum GrantLookup {
     Is(Grant),
     Absent,
 }
