@@ -16,7 +16,7 @@ use Rattle.grants_file.specs.Layout.{blockBytes, recordsPlace}
 use Rattle.block_read.specs.BlockRead.{Part, emptyPart, partAt, Occupies}
 use Rattle.block_read.proofs.BlockReadSteps.{RecordsAt, part-cases}
 use Rattle.calls.specs.Contract.{Leaves, Lends}
-use Rattle.packing.specs.Pack.{word, pack}
+use Rattle.packing.specs.Pack.{bValues, word, pack}
 use Rattle.packing.specs.Decision.{PacksOut}
 use Rattle.c_api.specs.Contract.{PacksPool, PacksLent, packPart}
 
@@ -30,7 +30,7 @@ module _ {a : Answer} {r : ℕ} {memory : List ℕ} {s : Step (List ℕ)} where
 pub packs-out : {a b : Answer} {r : ℕ} {out before : List ℕ} → a ≡ b → PacksOut r out before a → PacksOut r out before b
 packs-out e p = subst (PacksOut _ _ _) e p
 
-pub place-modulo : (i : ℕ) → (blockBytes * (i % 4294967296) + recordsPlace) % 4294967296 ≡ (blockBytes * i + recordsPlace) % 4294967296
+pub place-modulo : (i : ℕ) → (blockBytes * (i % bValues) + recordsPlace) % bValues ≡ (blockBytes * i + recordsPlace) % bValues
 place-modulo i = omega arith
 
 module _ (i : ℕ) {whole part : RefT (List ℕ)} (o : Occupies (partAt (now whole) i) whole part) {r : ℕ} where
@@ -42,7 +42,7 @@ module _ (i : ℕ) {whole part : RefT (List ℕ)} (o : Occupies (partAt (now who
       go (inl e) = rw e p
       go (inr h) = absurd (omega (arith, h .some, o .long, ap (λ (x : Part). x .size) (h .part)))
 
-  pub part-some : (length (now part) ≡ 0 → ⊥) → r ≡ word 0 (length (now part)) (blockBytes * (i % 4294967296) + recordsPlace) → r ≡ packPart (now whole) i
+  pub part-some : (length (now part) ≡ 0 → ⊥) → r ≡ word 0 (length (now part)) (blockBytes * (i % bValues) + recordsPlace) → r ≡ packPart (now whole) i
   unfolding packPart word
   part-some n p = go (part-cases (now whole) i)
     where

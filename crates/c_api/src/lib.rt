@@ -18,6 +18,7 @@ use index::grant::grant;
 use index::revoke::revoke;
 use index::start::start;
 use model::Box;
+use packing::B_VALUES;
 use packing::pack_counted;
 use packing::pack_decision;
 use packing::pack_listed;
@@ -164,6 +165,6 @@ pub extern "C" fn lg_block_part(file: &[u8], block: u64) -> u64
         return word(0, 0, 0);
     }
     // A block number past what `b` holds is in no file; its remainder keeps the product in range.
-    let start = BLOCK_BYTES as u64 * (block % 4294967296) + RECORDS_PLACE as u64;
+    let start = BLOCK_BYTES as u64 * (block % B_VALUES) + RECORDS_PLACE as u64;
     word(0, size as u64, start)
 }

@@ -130,7 +130,7 @@ fn is_quit(asked: Question) -> bool {
 }
 
 // A mark that a question can be typed, where a person types: whether it could be written.
-fn prompt() -> bool {
+fn show_ready() -> bool {
     if libc::isatty(STDIN_FILENO) == 1 {
         return put(answers(), b"panel> ").whole;
     }
@@ -144,7 +144,7 @@ fn ask(pool: &[u16], file: &[u8], base: Base, input: &mut [u8], line: &mut [u8])
     let mut shown = none_shown(true);
     let mut turns = u64::MAX;
     while turns > 0 {
-        if !prompt() {
+        if !show_ready() {
             return Ending::Failed;
         }
         let pulled = next_line(STDIN_FILENO, input, cursor, line, Longer::Dropped);

@@ -7,14 +7,14 @@ use mathlib.Core.Path.{_≡_}
 use mathlib.Core.List.{List}
 use native.Mathlib.Omega.{arith}
 use borrow.Author.Tests.{eq-eqb, ne-eqb}
-use Rattle.packing.specs.Pack.{word, firstOf, packRefusal, listFault}
+use Rattle.packing.specs.Pack.{numberValues, aValues, bValues, word, firstOf, packRefusal, listFault}
 
-module _ (number a b : ℕ) (n : number < 256) (k : a < 16777216) (m : b < 4294967296) where
-  pub number-word : word number a b % 256 ≡ number
+module _ (number a b : ℕ) (n : number < numberValues) (k : a < aValues) (m : b < bValues) where
+  pub number-word : word number a b % numberValues ≡ number
   unfolding word
   number-word = omega arith
 
-  pub a-word : word number a b / 256 % 16777216 ≡ a
+  pub a-word : word number a b / 256 % aValues ≡ a
   unfolding word
   a-word = omega arith
 

@@ -18,11 +18,18 @@ use model::faults::fault_number;
 use model::faults::fault_value;
 use model::kinds::kind_number;
 
+// How many values the bits of each part hold.
+const NUMBER_VALUES: u64 = 256;
+
+const A_VALUES: u64 = 16777216;
+
+pub const B_VALUES: u64 = 4294967296;
+
 // Bits 0 to 7 the number, 8 to 31 `a`, 32 to 63 `b`.
 pub fn word(number: u64, a: u64, b: u64) -> u64
     ensures { λ r. ⌜ r ≡ word number a b ⌝ }
 {
-    number % 256 + 256 * (a % 16777216) + 4294967296 * (b % 4294967296)
+    number % NUMBER_VALUES + 256 * (a % A_VALUES) + 4294967296 * (b % B_VALUES)
 }
 
 fn pack_fault(fault: Fault) -> u64

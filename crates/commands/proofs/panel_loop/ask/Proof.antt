@@ -22,8 +22,8 @@ none-shown-requires c κs = search needs
 loop-holds : tie.Need-loop-holds Inv-loop μ-loop
 loop-holds c = search needs
 
-prompt-requires : tie.Need-prompt-requires Inv-loop μ-loop
-prompt-requires c κs = search needs
+show-ready-requires : tie.Need-show-ready-requires Inv-loop μ-loop
+show-ready-requires c κs = search needs
 
 same-length : tie.Need-same-length Inv-loop μ-loop
 same-length c = search needs
@@ -125,7 +125,7 @@ ask-spec =
     fresh-requires
     none-shown-requires
     loop-holds
-    prompt-requires
+    show-ready-requires
     same-length
     same-length-2
     returns
