@@ -90,14 +90,7 @@ find-terminal-returns-5 t c =
     (one .if1 .left) (two .if2 .left) (three .if3 .left) (four .if4 .left)
 
 pub +find-terminal-spec : {M : Type 1} → statement M
-+find-terminal-spec = close μ-find-terminal λ t. find-terminal-lts.spec (
-  next-link-reads.Asked,
-  next-link-reads.Learnt,
-  wide-reads.Asked,
-  wide-reads.Learnt,
-  find-terminal-below t,
-  find-terminal.Post,
-)
++find-terminal-spec = close μ-find-terminal λ t. find-terminal-lts.spec (calls t)
     (find-terminal-at t)
     find-terminal.Post
     (find-terminal-next-link-requires t)

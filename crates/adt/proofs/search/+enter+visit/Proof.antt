@@ -1,3 +1,5 @@
+-- `search::enter` and `search::visit` meet their contracts, in one proof, since they call each other. The measure is twice the levels remaining,
+-- and for `visit` one more: it enters its subtrees with as many, and `enter` visits with one less. Assumes nothing.
 use Prim.Native.Nat.{ℕ, _+_, _-_, _*_, _<_, _≤_}
 use borrow.Author.Needs.{needs}
 use native.Mathlib.Omega.{arith}
@@ -337,18 +339,7 @@ visit-returns-4 t c =
     (p .in-levels) (linked .link-place2 .ensures .0) (c .enter2 .ensures))
 
 pub +enter+visit-spec : {M : Type 1} → statement M
-+enter+visit-spec = close μ-enter μ-visit (λ t. enter-lts.spec (
-  axis-of-reads.Asked,
-  axis-of-reads.Learnt,
-  half-meets-reads.Asked,
-  half-meets-reads.Learnt,
-  half-of-reads.Asked,
-  half-of-reads.Learnt,
-  wide-reads.Asked,
-  wide-reads.Learnt,
-  visit-below t,
-  visit.Post,
-)
++enter+visit-spec = close μ-enter μ-visit (λ t. enter-lts.spec (enter-calls t)
     (enter-at t)
     enter.Post
     (enter-returns t)
@@ -371,14 +362,7 @@ pub +enter+visit-spec : {M : Type 1} → statement M
     (enter-sub-visit t)
     (enter-visit-requires t)
     (enter-returns-4 t))
-    λ t. visit-lts.spec (
-      test-reads.Asked,
-      test-reads.Learnt,
-      link-place-reads.Asked,
-      link-place-reads.Learnt,
-      enter-below t,
-      enter.Post,
-    )
+    λ t. visit-lts.spec (visit-calls t)
     (visit-at t)
     visit.Post
     (visit-sub-level t)

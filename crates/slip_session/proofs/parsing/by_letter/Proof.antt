@@ -1,4 +1,4 @@
--- `reading::by_letter` meets its contract, letter by letter. Assumes nothing.
+-- `parsing::by_letter` meets its contract, letter by letter. Assumes nothing.
 use Rattle.slip_session.specs.Slip.{letterSlip}
 use Rattle.slip_session.proofs.SlipLaws.{letter-none}
 use borrow.Author.Needs.{needs}

@@ -1,4 +1,4 @@
--- `reading::count_slip` meets its contract. Assumes nothing.
+-- `parsing::count_slip` meets its contract. Assumes nothing.
 use borrow.Author.Tests.{not-true, not-false}
 use Rattle.slip_session.specs.Slip.{countSlip}
 use Rattle.slip_session.proofs.SlipLaws.{slip-bad, slip-good}

@@ -1,4 +1,4 @@
--- `reading::grant_slip` meets its contract. Assumes nothing.
+-- `parsing::grant_slip` meets its contract. Assumes nothing.
 use borrow.Author.Tests.{not-true, not-false}
 use mathlib.Core.Path.{sym, _∙_}
 use Rattle.slip_session.specs.Slip.{grantSlip, grantWidths}

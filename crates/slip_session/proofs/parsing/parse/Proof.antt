@@ -1,4 +1,4 @@
--- `reading::parse` meets its contract, by the line's first two bytes. Assumes nothing.
+-- `parsing::parse` meets its contract, by the line's first two bytes. Assumes nothing.
 use mathlib.Core.Path.{_∙_}
 use native.Mathlib.Omega.{arith}
 use Rattle.slip_session.proofs.SlipLaws.{line-empty, line-one, line-long, line-parted}

@@ -1,4 +1,4 @@
--- `printing::put_number` meets its contract: all digits but the last, then the last. The measure is the number. Assumes nothing.
+-- `put::put_number` meets its contract: all digits but the last, then the last. The measure is the number. Assumes nothing.
 use mathlib.Core.Path.{_∙_}
 use native.Mathlib.Omega.{arith}
 use Rattle.text.proofs.PutLaws.{put-then}
@@ -24,101 +24,50 @@ abbrev put-number-below : ℕ → In 1 put-number-kinds.ps
 put-number-below t =
     and 1 put-number-kinds.ps (falls 1 put-number-kinds.ps _<_ μ-put-number t) put-number.Pre
 
-put-number-cast-put-byte : (t : ℕ) → put-number-lts.Need-cast-put-byte (
-  put-byte-reads.Asked,
-  put-byte-reads.Learnt,
-  put-number-below t,
-  put-number.Post,
-) (put-number-at t) put-number.Post
+-- what the function calls: put_byte, and itself with a smaller number
+abbrev calls : ℕ → put-number-lts.Claims
+calls t = (put-byte-reads.Asked, put-byte-reads.Learnt, put-number-below t, put-number.Post)
+
+put-number-cast-put-byte : (t : ℕ) → put-number-lts.Need-cast-put-byte (calls t) (put-number-at t) put-number.Post
 put-number-cast-put-byte t c = omega arith
 
-put-number-add-put-byte : (t : ℕ) → put-number-lts.Need-add-put-byte (
-  put-byte-reads.Asked,
-  put-byte-reads.Learnt,
-  put-number-below t,
-  put-number.Post,
-) (put-number-at t) put-number.Post
+put-number-add-put-byte : (t : ℕ) → put-number-lts.Need-add-put-byte (calls t) (put-number-at t) put-number.Post
 put-number-add-put-byte t c = omega arith
 
-put-number-put-byte-requires : (t : ℕ) → put-number-lts.Need-put-byte-requires (
-  put-byte-reads.Asked,
-  put-byte-reads.Learnt,
-  put-number-below t,
-  put-number.Post,
-) (put-number-at t) put-number.Post
+put-number-put-byte-requires : (t : ℕ) → put-number-lts.Need-put-byte-requires (calls t) (put-number-at t) put-number.Post
 put-number-put-byte-requires t c κs =
     let a = c .before .before .before in
     omega (arith, a .pre .1, length-numeral-digit (a .args .n) (c .before .if1 .taken))
 
-put-number-same-length : (t : ℕ) → put-number-lts.Need-same-length (
-  put-byte-reads.Asked,
-  put-byte-reads.Learnt,
-  put-number-below t,
-  put-number.Post,
-) (put-number-at t) put-number.Post
+put-number-same-length : (t : ℕ) → put-number-lts.Need-same-length (calls t) (put-number-at t) put-number.Post
 put-number-same-length t c = c .before .before .put-byte .kept .0
 
-put-number-returns : (t : ℕ) → put-number-lts.Need-returns (
-  put-byte-reads.Asked,
-  put-byte-reads.Learnt,
-  put-number-below t,
-  put-number.Post,
-) (put-number-at t) put-number.Post
+put-number-returns : (t : ℕ) → put-number-lts.Need-returns (calls t) (put-number-at t) put-number.Post
 put-number-returns t c =
     rw (numeral-digit (c .before .before .before .before .before .before .args .n) (c .before .before .before .before .if1 .taken))
     (c .before .before .put-byte .ensures)
 
-put-number-put-number-requires : (t : ℕ) → put-number-lts.Need-put-number-requires (
-  put-byte-reads.Asked,
-  put-byte-reads.Learnt,
-  put-number-below t,
-  put-number.Post,
-) (put-number-at t) put-number.Post
+put-number-put-number-requires : (t : ℕ) → put-number-lts.Need-put-number-requires (calls t) (put-number-at t) put-number.Post
 put-number-put-number-requires t c κs =
     let a = c .before .before .before in
     (omega arith, omega (arith, a .pre .1, length-numeral-more (a .args .n) (c .before .if1 .left)))
 
-put-number-cast-put-byte-2 : (t : ℕ) → put-number-lts.Need-cast-put-byte-2 (
-  put-byte-reads.Asked,
-  put-byte-reads.Learnt,
-  put-number-below t,
-  put-number.Post,
-) (put-number-at t) put-number.Post
+put-number-cast-put-byte-2 : (t : ℕ) → put-number-lts.Need-cast-put-byte-2 (calls t) (put-number-at t) put-number.Post
 put-number-cast-put-byte-2 t c = omega arith
 
-put-number-add-put-byte-2 : (t : ℕ) → put-number-lts.Need-add-put-byte-2 (
-  put-byte-reads.Asked,
-  put-byte-reads.Learnt,
-  put-number-below t,
-  put-number.Post,
-) (put-number-at t) put-number.Post
+put-number-add-put-byte-2 : (t : ℕ) → put-number-lts.Need-add-put-byte-2 (calls t) (put-number-at t) put-number.Post
 put-number-add-put-byte-2 t c = omega arith
 
-put-number-put-byte-requires-2 : (t : ℕ) → put-number-lts.Need-put-byte-requires-2 (
-  put-byte-reads.Asked,
-  put-byte-reads.Learnt,
-  put-number-below t,
-  put-number.Post,
-) (put-number-at t) put-number.Post
+put-number-put-byte-requires-2 : (t : ℕ) → put-number-lts.Need-put-byte-requires-2 (calls t) (put-number-at t) put-number.Post
 put-number-put-byte-requires-2 t c κs =
     let a = c .before .before .before .before .before .before .before in
     let p = c .before .before .before .put-number in
     omega (arith, a .pre .1, length-numeral-more (a .args .n) (c .before .before .before .before .before .if1 .left), p .ensures .ends, p .kept .0)
 
-put-number-same-length-2 : (t : ℕ) → put-number-lts.Need-same-length-2 (
-  put-byte-reads.Asked,
-  put-byte-reads.Learnt,
-  put-number-below t,
-  put-number.Post,
-) (put-number-at t) put-number.Post
+put-number-same-length-2 : (t : ℕ) → put-number-lts.Need-same-length-2 (calls t) (put-number-at t) put-number.Post
 put-number-same-length-2 t c = c .before .before .put-byte2 .kept .0 ∙ c .before .before .before .before .before .before .put-number .kept .0
 
-put-number-returns-2 : (t : ℕ) → put-number-lts.Need-returns-2 (
-  put-byte-reads.Asked,
-  put-byte-reads.Learnt,
-  put-number-below t,
-  put-number.Post,
-) (put-number-at t) put-number.Post
+put-number-returns-2 : (t : ℕ) → put-number-lts.Need-returns-2 (calls t) (put-number-at t) put-number.Post
 put-number-returns-2 t c =
     let a = c .before .before .before .before .before .before .before .before .before .before in
     let p = c .before .before .before .before .before .before .put-number .ensures in
@@ -126,12 +75,7 @@ put-number-returns-2 t c =
     (put-then p (c .before .before .put-byte2 .ensures))
 
 pub +put-number-spec : {M : Type 1} → statement M
-+put-number-spec = close μ-put-number λ t. put-number-lts.spec (
-  put-byte-reads.Asked,
-  put-byte-reads.Learnt,
-  put-number-below t,
-  put-number.Post,
-)
++put-number-spec = close μ-put-number λ t. put-number-lts.spec (calls t)
     (put-number-at t)
     put-number.Post
     (put-number-cast-put-byte t)

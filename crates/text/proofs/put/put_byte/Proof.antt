@@ -1,4 +1,4 @@
--- `printing::put_byte` meets its contract. Assumes nothing.
+-- `put::put_byte` meets its contract. Assumes nothing.
 use Rattle.text.proofs.PutLaws.{put-one}
 use borrow.Author.Needs.{needs}
 use Rattle.text.proofs.put.put_byte.Statement.{statement}

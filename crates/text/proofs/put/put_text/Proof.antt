@@ -1,4 +1,4 @@
--- `printing::put_text` meets its contract. The invariant: the bytes passed are put. The measure is how many are left. Assumes nothing.
+-- `put::put_text` meets its contract. The invariant: the bytes passed are put. The measure is how many are left. Assumes nothing.
 use Prim.Native.Nat.{_+_, _-_, _≤_}
 use mathlib.Core.Path.{_≡_, refl}
 use native.Mathlib.Nat.{add-zero}
