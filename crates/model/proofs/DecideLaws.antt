@@ -1,6 +1,6 @@
 -- Who decides does not depend on the order of the grants, where their numbers differ.
 --   Yields g h                 g does not outrank h: yields-refl, yields-iff, yields-trans, yields-both
---   outranks-yields, not-outranks-yields    the test of specs/Decide, by what it says of the two
+--   outranks-yields, outranks-not-yields, not-outranks-yields    one that outranks another is yielded to and does not yield; else it yields
 --   deciding-mem               the one that decides is one of them
 --   deciding-first             each of them yields to it
 --   decideAmong-perm           so the same decides in any order
@@ -57,16 +57,37 @@ yields-both (yields-rank a) (yields-number b m) = absurd (omega arith)
 yields-both (yields-number a m) (yields-rank b) = absurd (omega arith)
 yields-both (yields-number a m) (yields-number b n) = omega arith
 
-pub outranks-yields : (g h : Grant) → outranks g h ≡ true → Yields h g
+-- g outranks h, by what the test says of the two
+data Above (g h : Grant) : Type 0 where
+  above-rank : h .rank < g .rank → Above g h
+  above-number : g .rank ≡ h .rank → g .number < h .number → Above g h
+
+outranks-above : (g h : Grant) → outranks g h ≡ true → Above g h
 unfolding outranks
-outranks-yields g h e = go (ltb (h .rank) (g .rank)) refl (eqb (g .rank) (h .rank)) refl (ltb (g .number) (h .number)) refl e
+outranks-above g h e = go (ltb (h .rank) (g .rank)) refl (eqb (g .rank) (h .rank)) refl (ltb (g .number) (h .number)) refl e
   where
     go : (a : Bool) → ltb (h .rank) (g .rank) ≡ a → (b : Bool) → eqb (g .rank) (h .rank) ≡ b → (c : Bool) → ltb (g .number) (h .number) ≡ c
-        → a || b && c ≡ true → Yields h g
-    go true x b y c z q = yields-rank (ltb-true (h .rank) (g .rank) x)
-    go false x true y true z q = yields-number (sym (eqb-true (g .rank) (h .rank) y)) (omega (arith, ltb-true (g .number) (h .number) z))
+        → a || b && c ≡ true → Above g h
+    go true x b y c z q = above-rank (ltb-true (h .rank) (g .rank) x)
+    go false x true y true z q = above-number (eqb-true (g .rank) (h .rank) y) (ltb-true (g .number) (h .number) z)
     go false x true y false z q = absurd (false≢true q)
     go false x false y c z q = absurd (false≢true q)
+
+above-yields : {g h : Grant} → Above g h → Yields h g
+above-yields (above-rank a) = yields-rank a
+above-yields (above-number a m) = yields-number (sym a) (omega arith)
+
+above-not-yields : {g h : Grant} → Above g h → Yields g h → ⊥
+above-not-yields (above-rank a) (yields-rank b) = omega arith
+above-not-yields (above-rank a) (yields-number b m) = omega arith
+above-not-yields (above-number a m) (yields-rank b) = omega arith
+above-not-yields (above-number a m) (yields-number b n) = omega arith
+
+pub outranks-yields : (g h : Grant) → outranks g h ≡ true → Yields h g
+outranks-yields g h e = above-yields (outranks-above g h e)
+
+pub outranks-not-yields : (g h : Grant) → outranks g h ≡ true → Yields g h → ⊥
+outranks-not-yields g h e = above-not-yields (outranks-above g h e)
 
 pub not-outranks-yields : (g h : Grant) → outranks g h ≡ false → Yields g h
 unfolding outranks

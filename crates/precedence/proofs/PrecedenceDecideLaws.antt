@@ -1,16 +1,12 @@
 -- Why a precedence is shown: a grant decides for exactly those of its staff numbers that are not overridden.
---   Above h g            h outranks g, by what the test says of the two
 --   kept-decides         of grants that touch a door and a quarter, the one that decides for a staff number is the one not overridden there
 --   whole-decides, nowhere-decides    so a whole grant decides for all its staff, and one that stands nowhere for none
 -- Assumes nothing.
-use Prim.Native.Nat.{ℕ, _<_}
+use Prim.Native.Nat.{ℕ}
 use mathlib.Core.Logic.{_↔_}
 use mathlib.Core.Path.{_≡_, refl, subst}
-use mathlib.Core.Bool.{Bool, true, false, _&&_, _||_, false≢true}
+use mathlib.Core.Bool.{Bool, true, false}
 use mathlib.Core.List.{List, map, List·Memᴰ}
-use native.Mathlib.Omega.{arith}
-use lib.Dec.{ltb, eqb}
-use borrow.Author.Tests.{ltb-true, eqb-true}
 use Rattle.lists.specs.Tests.{filter}
 use Rattle.lists.proofs.TestLaws.{both-le, le-both, mem-filter, filter-mem}
 use Rattle.lists.proofs.DistinctLaws.{Distinct}
@@ -19,32 +15,10 @@ use Rattle.model.specs.declared.Grant.{Grant}
 use Rattle.model.specs.Interval.{holds}
 use Rattle.model.specs.Box.{staffOf}
 use Rattle.model.specs.Decide.{outranks, decisionOf, decideAmong}
-use Rattle.model.proofs.DecideLaws.{Yields, yields-rank, yields-number, not-outranks-yields, Foremost, foremost-decides}
+use Rattle.model.proofs.DecideLaws.{Yields, outranks-not-yields, not-outranks-yields, Foremost, foremost-decides}
 use Rattle.precedence.specs.declared.Precedence.the-variants.{Whole, None}
 use Rattle.precedence.specs.Precedence.{HasStaff, Overridden, HasPrecedence, precedence}
 use Rattle.precedence.proofs.PrecedenceLaws.{precedence-stands}
-
-data Above (h g : Grant) : Type 0 where
-  above-rank : g .rank < h .rank → Above h g
-  above-number : h .rank ≡ g .rank → h .number < g .number → Above h g
-
-outranks-above : (h g : Grant) → outranks h g ≡ true → Above h g
-unfolding outranks
-outranks-above h g e = go (ltb (g .rank) (h .rank)) refl (eqb (h .rank) (g .rank)) refl (ltb (h .number) (g .number)) refl e
-  where
-    go : (a : Bool) → ltb (g .rank) (h .rank) ≡ a → (b : Bool) → eqb (h .rank) (g .rank) ≡ b → (c : Bool) → ltb (h .number) (g .number) ≡ c
-        → a || b && c ≡ true → Above h g
-    go true x b y c z q = above-rank (ltb-true (g .rank) (h .rank) x)
-    go false x true y true z q = above-number (eqb-true (h .rank) (g .rank) y) (ltb-true (h .number) (g .number) z)
-    go false x true y false z q = absurd (false≢true q)
-    go false x false y c z q = absurd (false≢true q)
-
--- one that outranks another does not yield to it
-above-yields : {g h : Grant} → Above h g → Yields h g → ⊥
-above-yields (above-rank a) (yields-rank b) = omega arith
-above-yields (above-rank a) (yields-number b m) = omega arith
-above-yields (above-number a m) (yields-rank b) = omega arith
-above-yields (above-number a m) (yields-number b n) = omega arith
 
 -- those of them that hold a staff number: they overlap the point that decide is asked about
 abbrev pub holding : ℕ → List Grant → List Grant
@@ -70,7 +44,7 @@ module _ (gs : List Grant) (distinct : Distinct (map (λ h. h .number) gs)) (g :
 
   foremost-kept : Foremost g (holding s gs) → Overridden gs g s → ⊥
   foremost-kept f o =
-      above-yields (outranks-above (o .by) g (o .above))
+      outranks-not-yields (o .by) g (o .above)
       (f .yield (o .by) (mem-filter (λ h. holds (staffOf (h .bounds)) s) gs (o .by) (o .member) (test (o .by) (o .staff))))
 
   pub kept-decides : (Overridden gs g s → ⊥) ↔ (decideAmong (holding s gs) ≡ decisionOf (g .kind) g)
