@@ -45,10 +45,10 @@ inline Box box_of(Point point)
     return {{point.staff, point.staff}, {point.door, point.door}, {point.quarter, point.quarter}};
 }
 
-// Whether a decides before b: the higher rank, at equal rank the lower number.
+// Whether a decides before b: the higher rank, at equal rank the higher number.
 inline bool decides_before(const Grant &a, const Grant &b)
 {
-    return a.rank > b.rank || (a.rank == b.rank && a.number < b.number);
+    return a.rank > b.rank || (a.rank == b.rank && a.number > b.number);
 }
 
 inline bool same(const Grant &a, const Grant &b)

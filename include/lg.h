@@ -75,7 +75,7 @@ uint64_t lg_revoke(uint16_t *pool, size_t pool_words, uint16_t number);
 uint64_t lg_list(const uint16_t *pool, size_t pool_words, uint16_t staff_from, uint16_t staff_to, uint16_t door_from,
                  uint16_t door_to, uint16_t quarter_from, uint16_t quarter_to, uint16_t *list, size_t list_words);
 
-/* What decides at a point: the live grant of the highest rank that holds it, at equal rank the one of the lowest number.
+/* What decides at a point: the live grant of the highest rank that holds it, at equal rank the one of the highest number.
  * Accepted: a = 0 none, 1 opens, 2 barred. Refuses 1 and 9, in this order.
  * Leaves: with 1 and 2, out = number, rank, kind, staff from, staff to, door from, door to, quarter from, quarter to, 0; otherwise
  * out stays. The pool stays. */

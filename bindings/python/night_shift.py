@@ -10,6 +10,8 @@ NIGHT = (88, 119)
 office = lg.Index(2048)
 office.grant(7, 10, lg.OPENS, (100, 199, 1, 40, *NIGHT))
 office.grant(3, 20, lg.BARS, (150, 150, 12, 12, 0, 65535))
+# A correction: at equal rank the higher number decides.
+office.grant(8, 10, lg.BARS, (190, 199, 1, 40, *NIGHT))
 
 # A refusal says why, and leaves the index as it was.
 try:
@@ -24,7 +26,7 @@ print("a file of %d bytes, its records in %d of them" % (len(cut), len(cut[lg.bl
 bank = lg.Index(64)
 bank.load(cut)
 print("the bank's grants:", bank.list((0, 65535, 1, 20, *NIGHT)))
-for staff in (120, 150, 200):
+for staff in (120, 150, 195, 200):
     grant = bank.decide(staff, 12, 90)
     if grant is None:
         print("no grant for %d at door 12" % staff)

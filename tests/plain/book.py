@@ -41,8 +41,8 @@ class Grant:
 
 
 def outranks(g, h):
-    """The higher rank decides; at equal rank the lower number."""
-    return (g.rank, -g.number) > (h.rank, -h.number)
+    """The higher rank decides; at equal rank the higher number."""
+    return (g.rank, g.number) > (h.rank, h.number)
 
 
 class Book:

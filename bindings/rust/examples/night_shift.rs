@@ -11,11 +11,15 @@ const STAFF: Grant =
     Grant { number: 7, rank: 10, kind: Kind::Opens, bounds: Bounds { staff: (100, 199), doors: (1, 40), quarters: NIGHT } };
 const BARRED: Grant =
     Grant { number: 3, rank: 20, kind: Kind::Bars, bounds: Bounds { staff: (150, 150), doors: (12, 12), quarters: (0, 65535) } };
+/// Corrects the first: at equal rank the higher number decides.
+const CORRECTION: Grant =
+    Grant { number: 8, rank: 10, kind: Kind::Bars, bounds: Bounds { staff: (190, 199), doors: (1, 40), quarters: NIGHT } };
 
 fn main() -> Result<(), Fault> {
     let mut office = Index::new(2048)?;
     office.grant(&STAFF)?;
     office.grant(&BARRED)?;
+    office.grant(&CORRECTION)?;
 
     // A refusal says why, and leaves the index as it was.
     if let Err(fault) = office.revoke(9) {
@@ -29,7 +33,7 @@ fn main() -> Result<(), Fault> {
     let mut bank = Index::new(64)?;
     bank.load(&cut)?;
     println!("the bank's grants: {:?}", bank.list(Bounds { staff: (0, 65535), doors: (1, 20), quarters: NIGHT })?);
-    for staff in [120, 150, 200] {
+    for staff in [120, 150, 195, 200] {
         match bank.decide(staff, 12, 90)? {
             Decision::Opens(grant) => println!("door 12 opens for {staff} by grant {}", grant.number),
             Decision::Barred(grant) => println!("door 12 is barred for {staff} by grant {}", grant.number),

@@ -65,7 +65,7 @@ pub fn list(pool: &[u16], bounds: Bounds, list: &mut [u16]) -> Result<usize, Fau
     .map(|values| values.a as usize)
 }
 
-/// What decides at a point: the live grant of the highest rank that holds it, at equal rank the one of the lowest number.
+/// What decides at a point: the live grant of the highest rank that holds it, at equal rank the one of the highest number.
 /// Refuses 1 and 9, in this order.
 pub fn decide(pool: &[u16], staff: u16, door: u16, quarter: u16) -> Result<Decision, Fault> {
     decide_into(pool, staff, door, quarter, &mut [0; 10])

@@ -85,15 +85,17 @@ module _ {w : List ℕ} {b : Book} (h : Represents w b) where
     foremost-iff g = (
       (λ d. record {
         member = overlapping-iff q (b .live) g .1 (d .live, d .overlapping);
-        yield = λ x m. let both = overlapping-iff q (b .live) x .0 m in yields-iff x g .1 (d .highest x (both .0) (both .1), d .lowest x (both .0) (both .1));
+        yield = λ x m.
+            let both = overlapping-iff q (b .live) x .0 m in
+            yields-iff x g .1 (d .highest-rank x (both .0) (both .1), d .highest-number x (both .0) (both .1));
       }),
       (λ f.
           let both = overlapping-iff q (b .live) g .0 (f .member) in
           record {
             live = both .0;
             overlapping = both .1;
-            highest = λ x m o. yields-iff x g .0 (f .yield x (overlapping-iff q (b .live) x .1 (m, o))) .0;
-            lowest = λ x m o. yields-iff x g .0 (f .yield x (overlapping-iff q (b .live) x .1 (m, o))) .1;
+            highest-rank = λ x m o. yields-iff x g .0 (f .yield x (overlapping-iff q (b .live) x .1 (m, o))) .0;
+            highest-number = λ x m o. yields-iff x g .0 (f .yield x (overlapping-iff q (b .live) x .1 (m, o))) .1;
           }),
     )
 

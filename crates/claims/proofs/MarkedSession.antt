@@ -1,4 +1,4 @@
--- Document 01's broken marked slips print its broken output lines ("Marked cases": C = 2048, list is lent 2048 numbers).
+-- Document 01's nine marked slips print its nine output lines ("Marked cases": C = 2048, list is lent 2048 numbers).
 --   marked-session    by the plain book, computed
 --   memory-met        the program's memory is of the size that the claim asks for
 --   marked-printed    so by the program's calls, on any memory of that size

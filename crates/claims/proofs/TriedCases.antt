@@ -117,6 +117,10 @@ revokedLast rs n = after wordsStep (startCall (replicate 43 9) .state) (map gran
 abbrev cycle : List ℕ
 cycle = 2 ∷ 1 ∷ 0 ∷ (2 ∷ 2 ∷ replicate 8 0) ++ (1 ∷ 1 ∷ replicate 8 0)
 
+-- two cells of one rank and one number; the first bars, the second opens
+abbrev twice : List ℕ
+twice = 2 ∷ 1 ∷ 0 ∷ (2 ∷ 0 ∷ 7 ∷ 20 ∷ 0 ∷ 9 ∷ 0 ∷ 9 ∷ 0 ∷ 9 ∷ []) ++ (0 ∷ 0 ∷ 7 ∷ 21 ∷ 0 ∷ 9 ∷ 0 ∷ 9 ∷ 0 ∷ 9 ∷ [])
+
 abbrev doors : Interval
 doors = record { from = 40; to = 50 }
 
@@ -169,9 +173,11 @@ cases =
           ∷ 0 ∷ 3 ∷ 3 ∷ 7 ∷ 9 ∷ 1
           ∷ [];
     }
-    -- at equal rank the lower number decides
-    ∷ record { given = numbers (responses bookStep (emptyBook 3) rivals); wanted = 0 ∷ 0 ∷ 0 ∷ 2 ∷ 4 ∷ 10 ∷ 0 ∷ 0 ∷ 9 ∷ 0 ∷ 9 ∷ 0 ∷ 9 ∷ [] }
-    -- the words after it: 7's cell 1 had the children 3 and 9; 3, terminal on its left, took its place; 7 result again, behind 3, in cell 1
+    -- at equal rank the higher number decides
+    ∷ record { given = numbers (responses bookStep (emptyBook 3) rivals); wanted = 0 ∷ 0 ∷ 0 ∷ 1 ∷ 8 ∷ 10 ∷ 1 ∷ 0 ∷ 9 ∷ 0 ∷ 9 ∷ 0 ∷ 9 ∷ [] }
+    -- of one rank and one number, which no calls leave, the first in the search's order decides: cell 1, which bars
+    ∷ record { given = say.responses (decideCall twice 5 5 5 .answer); wanted = 0 ∷ 2 ∷ 7 ∷ 10 ∷ 0 ∷ 0 ∷ 9 ∷ 0 ∷ 9 ∷ 0 ∷ 9 ∷ [] }
+    -- the words after it: 7's cell 1 had the children 3 and 9; 3, terminal on its left, took its place; 7 was granted again, behind 3, in cell 1
     ∷ record {
       given = after wordsStep fresh calls;
       wanted =

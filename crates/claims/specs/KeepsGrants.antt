@@ -49,12 +49,12 @@ abbrev pub ListsGrants : List ℕ → List Grant → Type 0
 ListsGrants w gs =
     (q : Box) (lent : List ℕ) (n : ℕ) → let r = listCall w q lent in r .answer ≡ accepted (n ∷ []) → ListsOverlapping gs q (take n (r .lent))
 
--- the grant g of gs decides at the point: of those that overlap it none has a higher rank, and none of its rank a lower number
+-- the grant g of gs decides at the point: of those that overlap it none has a higher rank, and none of its rank a higher number
 pub record Decides (gs : List Grant) (q : Box) (g : Grant) : Type 0 where
   pub live : List·Memᴰ g gs
   pub overlapping : Overlap (g .bounds) q
-  pub highest : (h : Grant) → List·Memᴰ h gs → Overlap (h .bounds) q → h .rank ≤ g .rank
-  pub lowest : (h : Grant) → List·Memᴰ h gs → Overlap (h .bounds) q → h .rank ≡ g .rank → g .number ≤ h .number
+  pub highest-rank : (h : Grant) → List·Memᴰ h gs → Overlap (h .bounds) q → h .rank ≤ g .rank
+  pub highest-number : (h : Grant) → List·Memᴰ h gs → Overlap (h .bounds) q → h .rank ≡ g .rank → h .number ≤ g .number
 
 abbrev pub DecidesAmong : List ℕ → List Grant → Type 0
 DecidesAmong w gs =

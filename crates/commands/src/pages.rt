@@ -64,7 +64,11 @@ pub fn say_panel() -> Stream {
     );
     let out = put(
         out,
-        b"time stand beside each quarter. A grant that a higher one overrides is shown so.\n",
+        b"time stand beside each quarter. A grant that a higher one overrides is shown so:\n",
+    );
+    let out = put(
+        out,
+        b"higher is the higher rank, and at equal rank the higher number.\n",
     );
     put(out, b"Example: grants panel bank.lgf 2026-01-01\n")
 }

@@ -28,20 +28,20 @@ use Rattle.model.specs.Decide.{outranks, decidingOf, decisionOf, decideA
 
 pub data Yields (g h : Grant) : Type 0 where
   yields-rank : g .rank < h .rank → Yields g h
-  yields-number : g .rank ≡ h .rank → h .number ≤ g .number → Yields g h
+  yields-number : g .rank ≡ h .rank → g .number ≤ h .number → Yields g h
 
 pub yields-refl : (g : Grant) → Yields g g
 yields-refl g = yields-number refl (omega arith)
 
--- which is that its rank is no higher, and at equal rank its number no lower
-pub yields-iff : (g h : Grant) → Yields g h ↔ ((g .rank ≤ h .rank) × (g .rank ≡ h .rank → h .number ≤ g .number))
+-- which is that its rank is no higher, and at equal rank its number no higher
+pub yields-iff : (g h : Grant) → Yields g h ↔ ((g .rank ≤ h .rank) × (g .rank ≡ h .rank → g .number ≤ h .number))
 yields-iff g h = (to, λ both. from (both .0) (both .1) (ℕ-discrete (g .rank) (h .rank)))
   where
-    to : Yields g h → (g .rank ≤ h .rank) × (g .rank ≡ h .rank → h .number ≤ g .number)
+    to : Yields g h → (g .rank ≤ h .rank) × (g .rank ≡ h .rank → g .number ≤ h .number)
     to (yields-rank a) = (omega arith, λ e. absurd (omega arith))
     to (yields-number e n) = (omega arith, λ same. n)
 
-    from : g .rank ≤ h .rank → (g .rank ≡ h .rank → h .number ≤ g .number) → Dec (g .rank ≡ h .rank) → Yields g h
+    from : g .rank ≤ h .rank → (g .rank ≡ h .rank → g .number ≤ h .number) → Dec (g .rank ≡ h .rank) → Yields g h
     from le f (yes e) = yields-number e (f e)
     from le f (no n) = yields-rank (omega (arith, le, n))
 
@@ -60,16 +60,16 @@ yields-both (yields-number a m) (yields-number b n) = omega arith
 -- g outranks h, by what the test says of the two
 data Above (g h : Grant) : Type 0 where
   above-rank : h .rank < g .rank → Above g h
-  above-number : g .rank ≡ h .rank → g .number < h .number → Above g h
+  above-number : g .rank ≡ h .rank → h .number < g .number → Above g h
 
 outranks-above : (g h : Grant) → outranks g h ≡ true → Above g h
 unfolding outranks
-outranks-above g h e = go (ltb (h .rank) (g .rank)) refl (eqb (g .rank) (h .rank)) refl (ltb (g .number) (h .number)) refl e
+outranks-above g h e = go (ltb (h .rank) (g .rank)) refl (eqb (g .rank) (h .rank)) refl (ltb (h .number) (g .number)) refl e
   where
-    go : (a : Bool) → ltb (h .rank) (g .rank) ≡ a → (b : Bool) → eqb (g .rank) (h .rank) ≡ b → (c : Bool) → ltb (g .number) (h .number) ≡ c
+    go : (a : Bool) → ltb (h .rank) (g .rank) ≡ a → (b : Bool) → eqb (g .rank) (h .rank) ≡ b → (c : Bool) → ltb (h .number) (g .number) ≡ c
         → a || b && c ≡ true → Above g h
     go true x b y c z q = above-rank (ltb-true (h .rank) (g .rank) x)
-    go false x true y true z q = above-number (eqb-true (g .rank) (h .rank) y) (ltb-true (g .number) (h .number) z)
+    go false x true y true z q = above-number (eqb-true (g .rank) (h .rank) y) (ltb-true (h .number) (g .number) z)
     go false x true y false z q = absurd (false≢true q)
     go false x false y c z q = absurd (false≢true q)
 
@@ -91,13 +91,13 @@ outranks-not-yields g h e = above-not-yields (outranks-above g h e)
 
 pub not-outranks-yields : (g h : Grant) → outranks g h ≡ false → Yields g h
 unfolding outranks
-not-outranks-yields g h e = go (ltb (h .rank) (g .rank)) refl (eqb (g .rank) (h .rank)) refl (ltb (g .number) (h .number)) refl e
+not-outranks-yields g h e = go (ltb (h .rank) (g .rank)) refl (eqb (g .rank) (h .rank)) refl (ltb (h .number) (g .number)) refl e
   where
-    go : (a : Bool) → ltb (h .rank) (g .rank) ≡ a → (b : Bool) → eqb (g .rank) (h .rank) ≡ b → (c : Bool) → ltb (g .number) (h .number) ≡ c
+    go : (a : Bool) → ltb (h .rank) (g .rank) ≡ a → (b : Bool) → eqb (g .rank) (h .rank) ≡ b → (c : Bool) → ltb (h .number) (g .number) ≡ c
         → a || b && c ≡ false → Yields g h
     go true x b y c z q = absurd (true≢false q)
     go false x true y true z q = absurd (true≢false q)
-    go false x true y false z q = yields-number (eqb-true (g .rank) (h .rank) y) (ltb-false (g .number) (h .number) z)
+    go false x true y false z q = yields-number (eqb-true (g .rank) (h .rank) y) (ltb-false (h .number) (g .number) z)
     go false x false y c z q = yields-rank (omega (arith, ltb-false (h .rank) (g .rank) x, eqb-false (g .rank) (h .rank) y))
 
 -- of two, the one that outranks the other

@@ -1,8 +1,8 @@
--- Which grant decides (document 01, "The plain book": decide).
---   outranks g h      the higher rank decides; at equal rank the lower number
+-- Which grant decides (document 01, "The plain book": decide; document 02, card 1).
+--   outranks g h      the higher rank decides; at equal rank the higher number
 --   decidingOf g hs   of g and hs, the one that decides; of grants that agree in both the first
 --   decideAmong gs    the answer where gs overlap the point
--- Changed by card 1. Assumes nothing: these are definitions.
+-- Assumes nothing: these are definitions.
 use mathlib.Core.Bool.{Bool, cond, _&&_, _||_}
 use mathlib.Core.List.{List, [], _∷_}
 use lib.Dec.{ltb, eqb}
@@ -13,7 +13,7 @@ use Rattle.model.specs.declared.Decision.{Decision}
 use Rattle.model.specs.declared.Decision.the-variants as decision
 
 unfoldable pub outranks : Grant → Grant → Bool
-outranks g h = ltb (h .rank) (g .rank) || eqb (g .rank) (h .rank) && ltb (g .number) (h .number)
+outranks g h = ltb (h .rank) (g .rank) || eqb (g .rank) (h .rank) && ltb (h .number) (g .number)
 
 unfoldable pub decidingOf : Grant → List Grant → Grant
 decidingOf g [] = g

@@ -1,4 +1,4 @@
-// Which grant decides, and the answer it gives (document 01, "The plain book": decide; specs/Decide says the same).
+// Which grant decides, and the answer it gives (document 01, "The plain book": decide; document 02, card 1; specs/Decide says the same).
 ghost use mathlib.Core.Path.{_≡_};
 ghost use Rattle.model.specs.Box.{pointBox};
 ghost use Rattle.model.specs.Decide.{outranks, decisionOf};
@@ -21,7 +21,7 @@ pub fn point_box(staff: u16, door: u16, quarter: u16) -> Box
     }
 }
 
-// Whether the first grant decides over the second: by the higher rank, at equal rank by the lower number.
+// Whether the first grant decides over the second: by the higher rank, at equal rank by the higher number.
 pub fn outranks(g: Grant, h: Grant) -> bool
     ensures { λ r. ⌜ r ≡ outranks g h ⌝ }
 {
@@ -29,7 +29,7 @@ pub fn outranks(g: Grant, h: Grant) -> bool
         return true;
     }
     if g.rank == h.rank {
-        return g.number < h.number;
+        return h.number < g.number;
     }
     false
 }

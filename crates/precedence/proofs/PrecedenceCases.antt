@@ -39,7 +39,7 @@ abbrev Beside : List Grant → Precedence → Type 0
 Beside gs x = precedence (night ∷ gs) night ≡ x
 
 -- alone; one staff number; all of them; two that meet; two with one number between them; beside its staff; a lower rank; an equal rank with a
--- higher number, and with a lower one
+-- lower number, and with a higher one
 pub precedence-cases : Beside [] Whole
     × Beside (grantFor 3 20 150 150 ∷ []) Partial
     × Beside (grantFor 3 20 0 65535 ∷ []) None
@@ -47,7 +47,7 @@ pub precedence-cases : Beside [] Whole
     × Beside (grantFor 3 20 152 300 ∷ grantFor 4 30 0 150 ∷ []) Partial
     × Beside (grantFor 3 20 200 300 ∷ grantFor 4 30 0 99 ∷ []) Whole
     × Beside (grantFor 3 9 0 65535 ∷ []) Whole
-    × Beside (grantFor 8 10 0 65535 ∷ []) Whole
-    × Beside (grantFor 6 10 0 65535 ∷ []) None
+    × Beside (grantFor 6 10 0 65535 ∷ []) Whole
+    × Beside (grantFor 8 10 0 65535 ∷ []) None
 unfolding precedence overrides outranks any every countFrom
 precedence-cases = (refl, refl, refl, refl, refl, refl, refl, refl, refl)

@@ -67,14 +67,20 @@ impl Book {
         }
     }
 
-    /// The highest rank decides; at equal rank the lowest number.
+    /// The grants at a point that have the highest rank there, ascending by number.
+    pub fn of_highest_rank(&self, point: [u16; 3]) -> Vec<Grant> {
+        let mut grants = self.overlapping(&point.map(|at| (at, at)));
+        let highest = grants.iter().map(|grant| grant.rank).max();
+        grants.retain(|grant| Some(grant.rank) == highest);
+        grants
+    }
+
+    /// The highest rank decides; at equal rank the highest number.
     pub fn decide(&self, point: [u16; 3]) -> Option<Grant> {
-        let hits = self.overlapping(&point.map(|at| (at, at)));
-        let highest = hits.iter().map(|grant| grant.rank).max()?;
-        let mut best = hits.into_iter().filter(|grant| grant.rank == highest);
+        let grants = self.of_highest_rank(point);
         match self.wrong {
-            Wrong::HigherNumberAtEqualRank => best.next_back(),
-            _ => best.next(),
+            Wrong::LowerNumberAtEqualRank => grants.first().copied(),
+            _ => grants.last().copied(),
         }
     }
 

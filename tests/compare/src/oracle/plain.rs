@@ -59,6 +59,14 @@ impl Plain {
         }
     }
 
+    /// Of a decide on a pool that calls made: how many grants have the highest rank at its point. Above one, the number decides.
+    pub fn of_highest_rank(&self, call: &Call) -> usize {
+        match (&self.standing, call) {
+            (Standing::Honest(honest), Call::Decide(point)) => honest.book.of_highest_rank(*point).len(),
+            _ => 0,
+        }
+    }
+
     /// Takes over the words that a call was free to leave.
     pub fn adopt(&mut self, words: &[u16]) {
         self.standing = Standing::Scrambled(words.to_vec());

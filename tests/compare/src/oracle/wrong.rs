@@ -4,7 +4,7 @@
 pub enum Wrong {
     /// Document 01.
     Nothing,
-    HigherNumberAtEqualRank,
+    LowerNumberAtEqualRank,
     EndsOutsideTheBox,
     ListDescending,
     ListTailCleared,
@@ -46,7 +46,7 @@ pub enum Wrong {
 
 /// All of them, document 01 apart.
 pub const ALL: [Wrong; 38] = [
-    Wrong::HigherNumberAtEqualRank,
+    Wrong::LowerNumberAtEqualRank,
     Wrong::EndsOutsideTheBox,
     Wrong::ListDescending,
     Wrong::ListTailCleared,

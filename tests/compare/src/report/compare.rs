@@ -21,6 +21,9 @@ pub struct Tally {
     pub calls: usize,
     /// Each refusal by call, number and cause, and how often it was seen.
     pub reached: BTreeMap<String, usize>,
+    /// How often a grant decided, and how often its number did, among grants of equal rank.
+    pub decisions: usize,
+    pub ties: usize,
 }
 
 pub fn run(case: &Case, wrong: Wrong, tally: &mut Tally) -> Result<(), Difference> {
@@ -36,6 +39,9 @@ pub fn run(case: &Case, wrong: Wrong, tally: &mut Tally) -> Result<(), Differenc
             plain.adopt(product.words());
         }
         tally.calls += 1;
+        let equals = plain.of_highest_rank(call);
+        tally.decisions += usize::from(equals > 0);
+        tally.ties += usize::from(equals > 1);
         if let Some(reached) = expected.reached {
             *tally.reached.entry(reached).or_default() += 1;
         }

@@ -13,6 +13,9 @@ use std::collections::BTreeSet;
 /// Every so many rounds comes a long one.
 const LONG_EVERY: usize = 30;
 
+/// Of so many decisions by a grant, at least one is between grants of equal rank.
+const DECISIONS_PER_TIE: usize = 3;
+
 /// What a run has tried, by family.
 #[derive(Default)]
 pub struct Counts {
@@ -65,21 +68,27 @@ pub fn compare(seed: u64, rounds: usize) -> bool {
     println!("{}", summary(seed, &counts, uncaught.len()));
     let missing = required::missing(&counts.tally.reached);
     let failing = marked::failing();
+    let ties_are_common = counts.tally.ties * DECISIONS_PER_TIE >= counts.tally.decisions.max(1);
     missing.iter().for_each(|refusal| println!("compare: not reached: {refusal}"));
     uncaught.iter().for_each(|wrong| println!("compare: not caught: {wrong:?}"));
     failing.iter().for_each(|name| println!("compare: marked cases that the scan gets wrong: {name}"));
-    missing.is_empty() && uncaught.is_empty() && failing.is_empty()
+    if !ties_are_common {
+        println!("compare: fewer than one decision in {DECISIONS_PER_TIE} was between grants of equal rank");
+    }
+    missing.is_empty() && uncaught.is_empty() && failing.is_empty() && ties_are_common
 }
 
 fn summary(seed: u64, counts: &Counts, uncaught: usize) -> String {
     format!(
         "compare: seed {seed}: {} calls, {} files and {} scrambled pools as document 01 has them; {} faults reached by {} causes; \
-         {} of {} wrong versions caught",
+         {} decisions, {} at equal rank; {} of {} wrong versions caught",
         counts.tally.calls,
         counts.files,
         counts.scrambled,
         counts.faults(),
         counts.tally.reached.len(),
+        counts.tally.decisions,
+        counts.tally.ties,
         wrong::ALL.len() - uncaught,
         wrong::ALL.len()
     )
