@@ -91,8 +91,8 @@ calls =
     ∷ []
 
 -- two grants of one rank that overlap
-abbrev rivals : List Call
-rivals =
+abbrev equalRanks : List Call
+equalRanks =
     grant (record { number = 8; rank = 10; kind = 1; bounds = box 0 9 0 9 0 9 })
     ∷ grant (record { number = 4; rank = 10; kind = 0; bounds = box 0 9 0 9 0 9 })
     ∷ decide 9 9 9
@@ -118,8 +118,8 @@ abbrev cycle : List ℕ
 cycle = 2 ∷ 1 ∷ 0 ∷ (2 ∷ 2 ∷ replicate 8 0) ++ (1 ∷ 1 ∷ replicate 8 0)
 
 -- two cells of one rank and one number; the first bars, the second opens
-abbrev twice : List ℕ
-twice = 2 ∷ 1 ∷ 0 ∷ (2 ∷ 0 ∷ 7 ∷ 20 ∷ 0 ∷ 9 ∷ 0 ∷ 9 ∷ 0 ∷ 9 ∷ []) ++ (0 ∷ 0 ∷ 7 ∷ 21 ∷ 0 ∷ 9 ∷ 0 ∷ 9 ∷ 0 ∷ 9 ∷ [])
+abbrev repeatedNumber : List ℕ
+repeatedNumber = 2 ∷ 1 ∷ 0 ∷ (2 ∷ 0 ∷ 7 ∷ 20 ∷ 0 ∷ 9 ∷ 0 ∷ 9 ∷ 0 ∷ 9 ∷ []) ++ (0 ∷ 0 ∷ 7 ∷ 21 ∷ 0 ∷ 9 ∷ 0 ∷ 9 ∷ 0 ∷ 9 ∷ [])
 
 abbrev doors : Interval
 doors = record { from = 40; to = 50 }
@@ -174,9 +174,9 @@ cases =
           ∷ [];
     }
     -- at equal rank the higher number decides
-    ∷ record { given = numbers (responses bookStep (emptyBook 3) rivals); wanted = 0 ∷ 0 ∷ 0 ∷ 1 ∷ 8 ∷ 10 ∷ 1 ∷ 0 ∷ 9 ∷ 0 ∷ 9 ∷ 0 ∷ 9 ∷ [] }
+    ∷ record { given = numbers (responses bookStep (emptyBook 3) equalRanks); wanted = 0 ∷ 0 ∷ 0 ∷ 1 ∷ 8 ∷ 10 ∷ 1 ∷ 0 ∷ 9 ∷ 0 ∷ 9 ∷ 0 ∷ 9 ∷ [] }
     -- of one rank and one number, which no calls leave, the first in the search's order decides: cell 1, which bars
-    ∷ record { given = say.responses (decideCall twice 5 5 5 .answer); wanted = 0 ∷ 2 ∷ 7 ∷ 10 ∷ 0 ∷ 0 ∷ 9 ∷ 0 ∷ 9 ∷ 0 ∷ 9 ∷ [] }
+    ∷ record { given = say.responses (decideCall repeatedNumber 5 5 5 .answer); wanted = 0 ∷ 2 ∷ 7 ∷ 10 ∷ 0 ∷ 0 ∷ 9 ∷ 0 ∷ 9 ∷ 0 ∷ 9 ∷ [] }
     -- the words after it: 7's cell 1 had the children 3 and 9; 3, terminal on its left, took its place; 7 was granted again, behind 3, in cell 1
     ∷ record {
       given = after wordsStep fresh calls;

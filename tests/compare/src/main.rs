@@ -1,4 +1,4 @@
-//! The index against plain scans written from document 01, sharing nothing with it.
+//! The index against plain scans written from documents 01 and 02, sharing nothing with it.
 //!
 //!     compare [--seed N] [--rounds N | --long]   compares, and prints one line with what it tried
 //!     compare --self-test [--seed N]             each wrong version of the plain implementation, and the history that shows it

@@ -1,8 +1,8 @@
-//! Wrong versions of the plain implementation: each breaks one sentence of document 01, and the comparison must catch it.
+//! Wrong versions of the plain implementation: each breaks one sentence of documents 01 and 02, and the comparison must catch it.
 
 #[derive(Clone, Copy, Debug, PartialEq, Eq)]
 pub enum Wrong {
-    /// Document 01.
+    /// As the documents have it.
     Nothing,
     LowerNumberAtEqualRank,
     EndsOutsideTheBox,
@@ -44,7 +44,7 @@ pub enum Wrong {
     LengthsCutTo16Bits,
 }
 
-/// All of them, document 01 apart.
+/// All of them, but for the right one.
 pub const ALL: [Wrong; 38] = [
     Wrong::LowerNumberAtEqualRank,
     Wrong::EndsOutsideTheBox,

@@ -80,7 +80,7 @@ pub fn compare(seed: u64, rounds: usize) -> bool {
 
 fn summary(seed: u64, counts: &Counts, uncaught: usize) -> String {
     format!(
-        "compare: seed {seed}: {} calls, {} files and {} scrambled pools as document 01 has them; {} faults reached by {} causes; \
+        "compare: seed {seed}: {} calls, {} files and {} scrambled pools as documents 01 and 02 have them; {} faults reached by {} causes; \
          {} decisions, {} at equal rank; {} of {} wrong versions caught",
         counts.tally.calls,
         counts.files,
