@@ -21,7 +21,7 @@ use Rattle.model.proofs.SoundLaws.{soundAnswer, soundCause, refusing-sound}
 use Rattle.model.proofs.BookLaws.{bookStep-sound}
 use Rattle.grants_file.specs.declared.Defect.{Defect}
 use Rattle.grants_file.specs.declared.Defect.the-variants.{Sound, Length, Checksum, Mark, BlockNumber, TooManyGrants, BlockCount}
-use Rattle.grants_file.specs.declared.Defect.the-variants.{RecordCount, DoorOrder, Padding, NumberOrder, Kind, Reversed, Doors}
+use Rattle.grants_file.specs.declared.Defect.the-variants.{RecordCount, DoorOrder, Padding, Record}
 use Rattle.grants_file.specs.File.{doorsIn, grantsIn}
 use Rattle.grants_file.specs.Defects.{fileDefects, defectFault}
 use Rattle.grants_file.specs.Verdict.{causeBy, fileCauses}
@@ -52,10 +52,7 @@ defect-sound (BlockCount total blocks) t = refl
 defect-sound (RecordCount i) t = refl
 defect-sound (DoorOrder from to) t = refl
 defect-sound (Padding i) t = refl
-defect-sound (NumberOrder i k number) t = refl
-defect-sound (Kind i k number) t = refl
-defect-sound (Reversed i k number) t = refl
-defect-sound (Doors i k number) t = refl
+defect-sound (Record i k number wrong) t = refl
 
 file-sound : (f : List ℕ) → every soundCause (fileCauses f) ≡ true
 unfolding fileCauses

@@ -4,6 +4,7 @@ use console::output::Stream;
 use console::output::put;
 use console::output::put_number;
 use grants_file::Defect;
+use grants_file::RecordFault;
 use grants_file::defects::outcome_of;
 use model::Outcome;
 use model::faults::fault_number;
@@ -14,11 +15,10 @@ fn say_block(out: Stream, block: usize, reason: &[u8]) -> Stream {
 }
 
 // Record `place` of a block, with its grant's number.
-fn say_record(out: Stream, block: usize, place: usize, number: u16, reason: &[u8]) -> Stream {
+fn say_record(out: Stream, block: usize, place: usize, number: u16) -> Stream {
     let numbered = put_number(put(out, b"block "), block);
     let placed = put_number(put(numbered, b", record "), place);
-    let named = put_number(put(placed, b", grant "), number as usize);
-    put(named, reason)
+    put_number(put(placed, b", grant "), number as usize)
 }
 
 fn say_total(out: Stream, total: usize) -> Stream {
@@ -39,75 +39,39 @@ fn say_door_order(out: Stream, from: u16, to: u16) -> Stream {
     put(last, b"; ask for the file again\n")
 }
 
-// Fault 13's causes.
-fn say_record_defect(out: Stream, defect: Defect) -> Stream {
-    match defect {
-        Defect::NumberOrder {
-            block,
-            place,
-            number,
-        } => say_record(
+fn say_too_many(out: Stream, total: usize) -> Stream {
+    put(
+        say_total(out, total),
+        b", more than the 2048 that a file may hold; ask for the file again\n",
+    )
+}
+
+// Fault 13's causes: a sentence for each, so that a new one can't be passed over.
+fn say_record_fault(out: Stream, wrong: RecordFault) -> Stream {
+    match wrong {
+        RecordFault::NumberOrder => put(
             out,
-            block,
-            place,
-            number,
             b": its number is 0 or not above the one before it; ask for the file again\n",
         ),
-        Defect::Kind {
-            block,
-            place,
-            number,
-        } => say_record(
+        RecordFault::Kind => put(
             out,
-            block,
-            place,
-            number,
             b": its kind is neither 0 (bars) nor 1 (opens); ask for the file again\n",
         ),
-        Defect::Reversed {
-            block,
-            place,
-            number,
-        } => say_record(
+        RecordFault::Reversed => put(
             out,
-            block,
-            place,
-            number,
             b": one of its ranges starts above its end; ask for the file again\n",
         ),
-        Defect::Doors {
-            block,
-            place,
-            number,
-        } => say_record(
+        RecordFault::Doors => put(
             out,
-            block,
-            place,
-            number,
             b": its doors don't touch the file's doors; ask for the file again\n",
         ),
-        _ => put(out, b"something else is wrong; ask for the file again\n"),
     }
 }
 
-// Fault 11's causes in block 0 alone.
-fn say_header_defect(out: Stream, defect: Defect) -> Stream {
-    match defect {
-        Defect::TooManyGrants { total } => {
-            put(
-                say_total(out, total),
-                b", more than the 2048 that a file may hold; ask for the file again\n",
-            )
-        }
-        Defect::BlockCount { total, blocks } => say_block_count(out, total, blocks),
-        Defect::DoorOrder { from, to } => say_door_order(out, from, to),
-        _ => say_record_defect(out, defect),
-    }
-}
-
-// What is wrong and where, and what to do.
+// What is wrong and where, and what to do: a sentence for each defect.
 fn say_cause(out: Stream, defect: Defect) -> Stream {
     match defect {
+        Defect::Sound => put(out, b"sound\n"),
         Defect::Length => put(
             out,
             b"the file is not 1 to 68 whole blocks of 512 bytes; ask for it again\n",
@@ -127,17 +91,25 @@ fn say_cause(out: Stream, defect: Defect) -> Stream {
             block,
             b" carries another block's number; ask for the file again\n",
         ),
+        Defect::TooManyGrants { total } => say_too_many(out, total),
+        Defect::BlockCount { total, blocks } => say_block_count(out, total, blocks),
         Defect::RecordCount { block } => say_block(
             out,
             block,
             b" counts more or fewer records than it should hold; ask for the file again\n",
         ),
+        Defect::DoorOrder { from, to } => say_door_order(out, from, to),
         Defect::Padding { block } => say_block(
             out,
             block,
             b" isn't zero where it should be empty; ask for the file again\n",
         ),
-        _ => say_header_defect(out, defect),
+        Defect::Record {
+            block,
+            place,
+            number,
+            wrong,
+        } => say_record_fault(say_record(out, block, place, number), wrong),
     }
 }
 
@@ -145,7 +117,7 @@ fn say_cause(out: Stream, defect: Defect) -> Stream {
 pub fn say_defect(out: Stream, defect: Defect) -> Stream {
     let outcome = outcome_of(defect);
     let Outcome::Refused(fault) = outcome else {
-        return put(out, b"sound\n");
+        return say_cause(out, defect);
     };
     let numbered = put_number(put(out, b"refused "), fault_number(fault));
     say_cause(put(numbered, b": "), defect)

@@ -13,7 +13,8 @@ use Rattle.model.specs.Interval.{Interval}
 use Rattle.model.specs.Arguments.{reversedBox}
 use Rattle.checksum.specs.Checksum.{base256, checksum}
 use Rattle.grants_file.specs.declared.Defect.the-variants.{Sound, Length, Checksum, Mark, BlockNumber, TooManyGrants, BlockCount}
-use Rattle.grants_file.specs.declared.Defect.the-variants.{RecordCount, DoorOrder, Padding, NumberOrder, Kind, Reversed, Doors}
+use Rattle.grants_file.specs.declared.Defect.the-variants.{RecordCount, DoorOrder, Padding, Record}
+use Rattle.grants_file.specs.declared.RecordFault.the-variants.{NumberOrder, Kind, Reversed, Doors}
 use Rattle.grants_file.specs.Layout.{magic}
 use Rattle.grants_file.specs.Bytes.{be16}
 use Rattle.grants_file.specs.Record.{encodeRecord, decodeRecord}
@@ -65,12 +66,12 @@ unfolding fileDefects contentDefects recordsDefects firstDefect wrongBlockCount 
 layout-cases = (refl, refl, refl, refl, refl, refl, refl, refl, refl, refl, refl)
 
 pub record-cases : (defectIn (fileOf doors (right 5 ∷ right 6 ∷ [])) ≡ Sound)
-    × (defectIn (fileOf doors (right 0 ∷ [])) ≡ NumberOrder 1 1 0)
-    × (defectIn (fileOf doors (right 5 ∷ right 5 ∷ [])) ≡ NumberOrder 1 2 5)
-    × (defectIn (fileOf doors (map right (countFrom 1 31) ++ right 31 ∷ [])) ≡ NumberOrder 2 1 31)
-    × (defectIn (headerBlock 1 doors ++ ofKind2) ≡ Kind 1 1 7)
-    × (defectIn (fileOf doors (right 5 ∷ given 6 (record { from = 2; to = 1 }) doors ∷ [])) ≡ Reversed 1 2 6)
-    × (defectIn (fileOf doors (given 6 (record { from = 1; to = 2 }) (record { from = 10; to = 12 }) ∷ [])) ≡ Doors 1 1 6)
+    × (defectIn (fileOf doors (right 0 ∷ [])) ≡ Record 1 1 0 NumberOrder)
+    × (defectIn (fileOf doors (right 5 ∷ right 5 ∷ [])) ≡ Record 1 2 5 NumberOrder)
+    × (defectIn (fileOf doors (map right (countFrom 1 31) ++ right 31 ∷ [])) ≡ Record 2 1 31 NumberOrder)
+    × (defectIn (headerBlock 1 doors ++ ofKind2) ≡ Record 1 1 7 Kind)
+    × (defectIn (fileOf doors (right 5 ∷ given 6 (record { from = 2; to = 1 }) doors ∷ [])) ≡ Record 1 2 6 Reversed)
+    × (defectIn (fileOf doors (given 6 (record { from = 1; to = 2 }) (record { from = 10; to = 12 }) ∷ [])) ≡ Record 1 1 6 Doors)
 unfolding fileDefects contentDefects recordsDefects firstDefect wrongBlockCount wrongChecksum wrongPadding lastBefore recordsOf sealed
     headerBlock recordBlock fileOf encodeRecord decodeRecord reversedBox flatMap countFrom every sameNumbers base256 checksum
 record-cases = (refl, refl, refl, refl, refl, refl, refl)

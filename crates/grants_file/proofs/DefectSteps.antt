@@ -28,14 +28,16 @@ use Rattle.model.specs.Call.{Request, request}
 use Rattle.model.specs.Arguments.{requestOrder, firstWrong}
 use Rattle.grants_file.specs.declared.Defect.{Defect}
 use Rattle.grants_file.specs.declared.Defect.the-variants.{Sound, Checksum, Mark, BlockNumber, TooManyGrants, BlockCount}
-use Rattle.grants_file.specs.declared.Defect.the-variants.{RecordCount, DoorOrder, Padding, NumberOrder, Doors}
+use Rattle.grants_file.specs.declared.Defect.the-variants.{RecordCount, DoorOrder, Padding, Record}
+use Rattle.grants_file.specs.declared.RecordFault.{RecordFault}
+use Rattle.grants_file.specs.declared.RecordFault.the-variants.{NumberOrder, Doors}
 use Rattle.grants_file.specs.Layout.{numberPlace, headerEnd, recordPlace, kindPlace}
 use Rattle.grants_file.specs.Bytes.{be16At}
 use Rattle.grants_file.specs.Record.{recordNumber, recordRequest, decodeRecord}
 use Rattle.grants_file.specs.Block.{countOf, hasMagic, wrongChecksum, wrongPadding}
 use Rattle.grants_file.specs.File.{blocksFor, blocksIn, blockAt, totalIn, doorsIn}
 use Rattle.grants_file.specs.Defects.{_when_, startDefects, paddingDefects, layoutDefects, headerDefects}
-use Rattle.grants_file.specs.Defects.{requestDefect, recordDefects, recordsDefects, isWrong, firstDefect}
+use Rattle.grants_file.specs.Defects.{recordFault, recordDefects, recordsDefects, isWrong, firstDefect}
 use Rattle.grants_file.proofs.RecordSteps.{recordAt, number-at, kind-at}
 use Rattle.grants_file.proofs.BlockSteps.{recordsFrom, records-cons}
 use Rattle.grants_file.proofs.DefectLaws.{front-wrong, front-sound}
@@ -110,7 +112,7 @@ module _ (doors : Interval) (i k last : ℕ) (b : List ℕ) (at : ℕ) {g : Gran
   unfolding decodeRecord
   number = ap (λ (h : Grant). h .number) read
 
-  pub record-number : g .number ≤ last → NumberOrder i k (g .number) ≡ firstDefect (recordDefects doors i k last (recordAt b at))
+  pub record-number : g .number ≤ last → Record i k (g .number) NumberOrder ≡ firstDefect (recordDefects doors i k last (recordAt b at))
   unfolding firstDefect
   record-number h = rw (← number, le-leb (g .number) last h)
 
@@ -125,26 +127,28 @@ module _ (doors : Interval) (i k last : ℕ) (b : List ℕ) (at : ℕ) {g : Gran
   module _ (above : last < g .number) {c : RequestCheck} (check : c ≡ firstWrong askedOf requestOrder) where
     -- the defect by what the check found, and by the doors where it found nothing
     checked : firstDefect (recordDefects doors i k last (recordAt b at))
-        ≡ checkDefect i k (g .number) c (firstDefect (Doors i k (g .number) when not (touches doors g) ∷ []))
+        ≡ checkDefect i k (g .number) c (firstDefect (Record i k (g .number) Doors when not (touches doors g) ∷ []))
     unfolding firstDefect
     checked =
         let r = recordAt b at in
-        let touch = Doors i k (recordNumber r) when not (touches doors (decodeRecord r)) in
+        let touch = Record i k (recordNumber r) Doors when not (touches doors (decodeRecord r)) in
         rw (lt-leb (recordNumber r) last (omega (arith, number)))
         (firstWrong-defect i k (recordNumber r) (recordRequest r) requestOrder (touch ∷ [])
         ∙ ap (λ (d : RequestCheck). checkDefect i k (recordNumber r) d (firstDefect (touch ∷ [])))
         (sym (check ∙ ap (λ (q : Request). firstWrong q requestOrder) asked))
-        ∙ ap₂ (λ (n : ℕ) (h : Grant). checkDefect i k n c (firstDefect (Doors i k n when not (touches doors h) ∷ []))) (sym number) (sym read))
+        ∙ ap₂ (λ (n : ℕ) (h : Grant). checkDefect i k n c (firstDefect (Record i k n Doors when not (touches doors h) ∷ []))) (sym number) (sym read))
 
-    pub record-wrong : {x : RequestFault} → c ≡ Wrong x → requestDefect i k (g .number) x ≡ firstDefect (recordDefects doors i k last (recordAt b at))
-    record-wrong e = sym (checked ∙ rw e)
+    pub record-wrong : {x : RequestFault} → c ≡ Wrong x → {y : RecordFault} → y ≡ recordFault x
+        → Record i k (g .number) y ≡ firstDefect (recordDefects doors i k last (recordAt b at))
+    record-wrong e same = sym (checked ∙ rw (e, same))
 
     module _ (right : c ≡ Right) where
       pub record-sound : true ≡ overlapOn (doorsOf (g .bounds)) doors → Sound ≡ firstDefect (recordDefects doors i k last (recordAt b at))
       unfolding firstDefect
       record-sound h = sym (checked ∙ rw (right, ← h))
 
-      pub record-doors : false ≡ overlapOn (doorsOf (g .bounds)) doors → Doors i k (g .number) ≡ firstDefect (recordDefects doors i k last (recordAt b at))
+      pub record-doors : false ≡ overlapOn (doorsOf (g .bounds)) doors
+          → Record i k (g .number) Doors ≡ firstDefect (recordDefects doors i k last (recordAt b at))
       unfolding firstDefect
       record-doors h = sym (checked ∙ rw (right, ← h))
 

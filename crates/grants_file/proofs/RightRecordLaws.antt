@@ -21,7 +21,8 @@ use Rattle.model.specs.Judged.{NoneOf}
 use Rattle.model.specs.Call.{Request, requestOf}
 use Rattle.model.specs.Arguments.{requestOrder, requestCauses}
 use Rattle.model.proofs.ArgumentLaws.{request-kind}
-use Rattle.grants_file.specs.declared.Defect.the-variants.{Doors}
+use Rattle.grants_file.specs.declared.Defect.the-variants.{Record}
+use Rattle.grants_file.specs.declared.RecordFault.the-variants.{Doors}
 use Rattle.grants_file.specs.Record.{encodeRecord, recordRequest, decodeRecord, recordNumber, kindByte}
 use Rattle.grants_file.specs.Defects.{_when_, requestDefects, recordDefects, recordsDefects}
 use Rattle.grants_file.specs.FileSets.{Ascending, ascending-none, ascending-more}
@@ -37,7 +38,7 @@ pub record RightRecord (doors : Interval) (last : ℕ) (r : List ℕ) : Type 0 w
 record-iff : (doors : Interval) (i k last : ℕ) (r : List ℕ) → Clear (recordDefects doors i k last r) ↔ RightRecord doors last r
 record-iff doors i k last r =
     let request = clear-request i k (recordNumber r) (recordRequest r) requestOrder in
-    let doors-test = Doors i k (recordNumber r) when not (touches doors (decodeRecord r)) in
+    let doors-test = Record i k (recordNumber r) Doors when not (touches doors (decodeRecord r)) in
     let joined = clear-append (requestDefects i k r) (doors-test ∷ []) in (
       (λ e.
           let number = clear-parts _ _ e refl in

@@ -27,7 +27,9 @@ use Rattle.model.specs.declared.RequestFault.the-variants as wrong
 use Rattle.model.specs.Arguments.{requestOrder, wrongIn}
 use Rattle.grants_file.specs.declared.Defect.{Defect}
 use Rattle.grants_file.specs.declared.Defect.the-variants.{Sound, Length, Checksum, Mark, BlockNumber, TooManyGrants, BlockCount}
-use Rattle.grants_file.specs.declared.Defect.the-variants.{RecordCount, DoorOrder, Padding, NumberOrder, Kind, Reversed, Doors}
+use Rattle.grants_file.specs.declared.Defect.the-variants.{RecordCount, DoorOrder, Padding, Record}
+use Rattle.grants_file.specs.declared.RecordFault.{RecordFault}
+use Rattle.grants_file.specs.declared.RecordFault.the-variants.{NumberOrder, Kind, Reversed, Doors}
 use Rattle.grants_file.specs.Layout.{numberPlace, headerEnd, recordBytes, recordPlace, lastRecordPlace}
 use Rattle.grants_file.specs.Bytes.{be16At, bytesAt}
 use Rattle.grants_file.specs.Record.{recordNumber, recordRequest, decodeRecord}
@@ -63,20 +65,20 @@ headerDefects f =
     ∷ paddingDefects (blockAt f 0) 0 headerEnd
 
 -- as what a fault of grant's arguments is told in a record; number 0 is told as one that is not above the last
-abbrev pub requestDefect : ℕ → ℕ → ℕ → RequestFault → Defect
-requestDefect i k number wrong.ZeroNumber = NumberOrder i k number
-requestDefect i k number wrong.UnknownKind = Kind i k number
-requestDefect i k number wrong.Reversed = Reversed i k number
+abbrev pub recordFault : RequestFault → RecordFault
+recordFault wrong.ZeroNumber = NumberOrder
+recordFault wrong.UnknownKind = Kind
+recordFault wrong.Reversed = Reversed
 
 abbrev pub requestDefects : ℕ → ℕ → List ℕ → List DefectCause
-requestDefects i k r = map (λ x. requestDefect i k (recordNumber r) x when wrongIn (recordRequest r) x) requestOrder
+requestDefects i k r = map (λ x. Record i k (recordNumber r) (recordFault x) when wrongIn (recordRequest r) x) requestOrder
 
 -- r are the record's bytes, and `last` is the number of the record before it, 0 at the first
 abbrev pub recordDefects : Interval → ℕ → ℕ → ℕ → List ℕ → List DefectCause
 recordDefects doors i k last r =
-    NumberOrder i k (recordNumber r) when leb (recordNumber r) last
+    Record i k (recordNumber r) NumberOrder when leb (recordNumber r) last
     ∷ requestDefects i k r
-    ++ (Doors i k (recordNumber r) when not (touches doors (decodeRecord r)) ∷ [])
+    ++ (Record i k (recordNumber r) Doors when not (touches doors (decodeRecord r)) ∷ [])
 
 unfoldable pub recordsDefects : Interval → ℕ → ℕ → ℕ → List (List ℕ) → List DefectCause
 recordsDefects doors i k last [] = []
@@ -115,10 +117,7 @@ defectFault (BlockCount total blocks) = some (BadLayout 0)
 defectFault (RecordCount i) = some (BadLayout i)
 defectFault (DoorOrder from to) = some (BadLayout 0)
 defectFault (Padding i) = some (BadLayout i)
-defectFault (NumberOrder i k number) = some (BadRecord i)
-defectFault (Kind i k number) = some (BadRecord i)
-defectFault (Reversed i k number) = some (BadRecord i)
-defectFault (Doors i k number) = some (BadRecord i)
+defectFault (Record i k number wrong) = some (BadRecord i)
 
 abbrev pub isSome : Option Fault → Bool
 isSome none = false

@@ -21,10 +21,7 @@ pub fn outcome_of(defect: Defect) -> Outcome
         Defect::RecordCount { block } => Outcome::Refused(Fault::BadLayout { block }),
         Defect::DoorOrder { .. } => Outcome::Refused(Fault::BadLayout { block: 0 }),
         Defect::Padding { block } => Outcome::Refused(Fault::BadLayout { block }),
-        Defect::NumberOrder { block, .. } => Outcome::Refused(Fault::BadRecord { block }),
-        Defect::Kind { block, .. } => Outcome::Refused(Fault::BadRecord { block }),
-        Defect::Reversed { block, .. } => Outcome::Refused(Fault::BadRecord { block }),
-        Defect::Doors { block, .. } => Outcome::Refused(Fault::BadRecord { block }),
+        Defect::Record { block, .. } => Outcome::Refused(Fault::BadRecord { block }),
     }
 }
 

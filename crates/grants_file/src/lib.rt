@@ -13,7 +13,7 @@ pub mod validate;
 pub mod verdict;
 pub mod write_block;
 
-// What is wrong in a file, finer than document 01's fault: 10; 12; 11 by its causes; 13 by its causes.
+// What is wrong in a file, finer than document 01's fault: 10; 12; 11 by its causes; 13 by its causes (`Record`).
 // A record counts from 1 in its block; its number is the grant's, as it stands there.
 pub enum Defect {
     Sound,
@@ -44,26 +44,20 @@ pub enum Defect {
     Padding {
         block: usize,
     },
-    NumberOrder {
+    Record {
         block: usize,
         place: usize,
         number: u16,
+        wrong: RecordFault,
     },
-    Kind {
-        block: usize,
-        place: usize,
-        number: u16,
-    },
-    Reversed {
-        block: usize,
-        place: usize,
-        number: u16,
-    },
-    Doors {
-        block: usize,
-        place: usize,
-        number: u16,
-    },
+}
+
+// Fault 13's causes: a number that is 0 or not above the last, a kind above 1, a from above its to, doors that the file's don't touch.
+pub enum RecordFault {
+    NumberOrder,
+    Kind,
+    Reversed,
+    Doors,
 }
 
 // A block's answer: sound, with the number that the records of the next block must be above; or what is wrong in it.

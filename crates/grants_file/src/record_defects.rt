@@ -4,8 +4,9 @@ ghost use Prim.Native.Nat.{_+_, _<_, _≤_};
 ghost use lib.ListN.{length};
 ghost use Rattle.grants_file.specs.Layout.{blockBytes, recordsPerBlock};
 ghost use Rattle.grants_file.specs.Block.{recordIn, recordsOf};
-ghost use Rattle.grants_file.specs.Defects.{requestDefect, recordDefects, recordsDefects, firstDefect};
+ghost use Rattle.grants_file.specs.Defects.{recordFault, recordDefects, recordsDefects, firstDefect};
 use crate::Defect;
+use crate::RecordFault;
 use crate::bytes::be16_at;
 use crate::defects::is_wrong;
 use crate::layout::KIND_PLACE;
@@ -18,25 +19,13 @@ use model::arguments::check_request;
 use model::bounds::overlap_on;
 
 // As what a fault of grant's arguments is told in a record.
-fn request_defect(wrong: RequestFault, block: usize, place: usize, number: u16) -> Defect
-    ensures { λ r. ⌜ r ≡ requestDefect block place number wrong ⌝ }
+fn record_fault(wrong: RequestFault) -> RecordFault
+    ensures { λ r. ⌜ r ≡ recordFault wrong ⌝ }
 {
     match wrong {
-        RequestFault::ZeroNumber => Defect::NumberOrder {
-            block,
-            place,
-            number,
-        },
-        RequestFault::UnknownKind => Defect::Kind {
-            block,
-            place,
-            number,
-        },
-        RequestFault::Reversed => Defect::Reversed {
-            block,
-            place,
-            number,
-        },
+        RequestFault::ZeroNumber => RecordFault::NumberOrder,
+        RequestFault::UnknownKind => RecordFault::Kind,
+        RequestFault::Reversed => RecordFault::Reversed,
     }
 }
 
@@ -49,24 +38,31 @@ fn record_defect(block: &[u8], number: usize, i: usize, from: u16, to: u16, last
     let at = RECORDS_PLACE + RECORD_BYTES * i;
     let g = decode_record(block, at);
     if g.number <= last {
-        return Defect::NumberOrder {
+        return Defect::Record {
             block: number,
             place,
             number: g.number,
+            wrong: RecordFault::NumberOrder,
         };
     }
     let b = g.bounds;
     let check = check_request(g.number, g.rank, block[at + KIND_PLACE], b);
     match check {
-        RequestCheck::Wrong(wrong) => request_defect(wrong, number, place, g.number),
+        RequestCheck::Wrong(asked) => Defect::Record {
+            block: number,
+            place,
+            number: g.number,
+            wrong: record_fault(asked),
+        },
         RequestCheck::Right => {
             if overlap_on(b.door_from, b.door_to, from, to) {
                 return Defect::Sound;
             }
-            Defect::Doors {
+            Defect::Record {
                 block: number,
                 place,
                 number: g.number,
+                wrong: RecordFault::Doors,
             }
         }
     }

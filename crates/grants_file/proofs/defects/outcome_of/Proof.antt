@@ -36,15 +36,6 @@ enum-known-defect-5 c = search needs
 enum-known-defect-6 : tie.Need-enum-known-defect-6
 enum-known-defect-6 c = search needs
 
-enum-known-defect-7 : tie.Need-enum-known-defect-7
-enum-known-defect-7 c = search needs
-
-enum-known-defect-8 : tie.Need-enum-known-defect-8
-enum-known-defect-8 c = search needs
-
-enum-known-defect-9 : tie.Need-enum-known-defect-9
-enum-known-defect-9 c = search needs
-
 returns : tie.Need-returns
 returns c = search needs
 
@@ -78,15 +69,6 @@ returns-10 c = rw (c .before .defect5 .given .1)
 returns-11 : tie.Need-returns-11
 returns-11 c = rw (c .before .defect6 .given .1)
 
-returns-12 : tie.Need-returns-12
-returns-12 c = rw (c .before .defect7 .given .1)
-
-returns-13 : tie.Need-returns-13
-returns-13 c = rw (c .before .defect8 .given .1)
-
-returns-14 : tie.Need-returns-14
-returns-14 c = rw (c .before .defect9 .given .1)
-
 pub outcome-of-spec : {M : Type 1} → statement M
 outcome-of-spec =
     tie.close
@@ -102,9 +84,6 @@ outcome-of-spec =
     enum-told-5
     enum-known-defect-5
     enum-known-defect-6
-    enum-known-defect-7
-    enum-known-defect-8
-    enum-known-defect-9
     returns
     returns-2
     returns-3
@@ -115,7 +94,4 @@ outcome-of-spec =
     returns-8
     returns-9
     returns-10
-    returns-11
-    returns-12
-    returns-13
-    returns-14)
+    returns-11)

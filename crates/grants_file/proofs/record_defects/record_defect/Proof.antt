@@ -36,8 +36,8 @@ check-request-requires c κs = search needs
 enum-known-check : tie.Need-enum-known-check
 enum-known-check c = search needs
 
-request-defect-requires : tie.Need-request-defect-requires
-request-defect-requires c κs = search needs
+record-fault-requires : tie.Need-record-fault-requires
+record-fault-requires c κs = search needs
 
 enum-told : tie.Need-enum-told
 enum-told c = search needs
@@ -61,9 +61,8 @@ returns-3 c =
     let checked = told .before .before in
     let above = checked .before .before .before in
     let read = above .before .before in
-    c .request-defect .ensures
-    ∙ record-wrong _ _ _ _ (read .before .before .args .block .now) _ (read .decode-record .ensures) (above .if1 .left) (checked .check-request .ensures)
-    (told .check .given .1)
+    record-wrong _ _ _ _ (read .before .before .args .block .now) _ (read .decode-record .ensures) (above .if1 .left) (checked .check-request .ensures)
+    (told .check .given .1) (c .record-fault .ensures)
 
 returns-4 : tie.Need-returns-4
 returns-4 c =
@@ -88,7 +87,7 @@ record-defect-spec =
     shared-slice-read-check-request
     check-request-requires
     enum-known-check
-    request-defect-requires
+    record-fault-requires
     enum-told
     overlap-on-requires
     returns-2

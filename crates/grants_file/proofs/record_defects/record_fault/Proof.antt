@@ -1,7 +1,7 @@
--- `record_defects::request_defect` meets its contract: a case for each fault. Assumes nothing.
+-- `record_defects::record_fault` meets its contract: a case for each fault. Assumes nothing.
 use borrow.Author.Needs.{needs}
-use Rattle.grants_file.proofs.record_defects.request_defect.Statement.{statement}
-use Rattle.grants_file.proofs.record_defects.request_defect.Tie as tie
+use Rattle.grants_file.proofs.record_defects.record_fault.Statement.{statement}
+use Rattle.grants_file.proofs.record_defects.record_fault.Tie as tie
 
 enum-told : tie.Need-enum-told
 enum-told c = search needs
@@ -21,5 +21,5 @@ returns-2 c = rw (c .enum-told2 .given .1)
 returns-3 : tie.Need-returns-3
 returns-3 c = rw (c .enum-told3 .given .1)
 
-pub request-defect-spec : {M : Type 1} → statement M
-request-defect-spec = tie.close (tie.spec enum-told enum-told-2 enum-told-3 returns returns-2 returns-3)
+pub record-fault-spec : {M : Type 1} → statement M
+record-fault-spec = tie.close (tie.spec enum-told enum-told-2 enum-told-3 returns returns-2 returns-3)
