@@ -37,7 +37,7 @@ Grant grant_in(const uint16_t *cell)
 bool decides_before(const uint16_t *cell, const uint16_t *other)
 {
     unsigned rank = cell[RANK_KIND] / 2, other_rank = other[RANK_KIND] / 2;
-    return rank > other_rank || (rank == other_rank && cell[NUMBER] < other[NUMBER]);
+    return rank > other_rank || (rank == other_rank && cell[NUMBER] > other[NUMBER]);
 }
 
 class PlainTree : public Engine, public Files {

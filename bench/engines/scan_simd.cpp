@@ -48,7 +48,7 @@ public:
         mark(box_of(point));
         size_t best = count;
         for_each_mark([&](size_t i) {
-            if (best == count || columns[RANK_KIND][i] / 2 > columns[RANK_KIND][best] / 2)
+            if (best == count || columns[RANK_KIND][i] / 2 >= columns[RANK_KIND][best] / 2)
                 best = i;
         });
         if (best == count)
