@@ -91,7 +91,7 @@ bool sound(const Grant &grant, uint16_t last, Span doors)
 {
     const Box &box = grant.box;
     return grant.number > last && grant.kind <= 1 && box.staff.from <= box.staff.to && box.doors.from <= box.doors.to &&
-           box.quarters.from <= box.quarters.to && overlap(box.doors, doors);
+           box.quarters.from <= box.quarters.to && is_senior_enough(grant) && overlap(box.doors, doors);
 }
 
 // A block of records; `last` is the number before its first and becomes its last.

@@ -51,6 +51,12 @@ inline bool decides_before(const Grant &a, const Grant &b)
     return a.rank > b.rank || (a.rank == b.rank && a.number > b.number);
 }
 
+// Whether the rank is high enough for the doors: 200 or above for more than 1,000 of them.
+inline bool is_senior_enough(const Grant &grant)
+{
+    return grant.rank >= 200 || grant.box.doors.to - grant.box.doors.from < 1000;
+}
+
 inline bool same(const Grant &a, const Grant &b)
 {
     return memcmp(&a, &b, sizeof a) == 0;

@@ -48,6 +48,14 @@ uint8_t byte_between(Random &random, uint32_t from, uint32_t to)
     return static_cast<uint8_t>(random.between(from, to));
 }
 
+// With a rank that is high enough for its doors.
+Grant raised(Grant grant)
+{
+    if (!is_senior_enough(grant))
+        grant.rank = static_cast<uint8_t>(200 + grant.rank % 56);
+    return grant;
+}
+
 // So many of what `one` makes.
 template <class One> auto many(size_t count, One one)
 {
@@ -95,7 +103,7 @@ Load uniform(Random &random, size_t size)
     Load load;
     load.name = "uniform";
     auto box = [&] { return Box{anywhere(random, 4096), anywhere(random, 4096), anywhere(random, 4096)}; };
-    load.grants = many(size, [&] { return Grant{0, byte_below(random, 256), byte_below(random, 2), box()}; });
+    load.grants = many(size, [&] { return raised({0, byte_below(random, 256), byte_below(random, 2), box()}); });
     number_spread(random, load.grants);
     load.points = many(QUESTIONS, [&] {
         return point_in(random, random.percent(50) ? random.one_of(load.grants).box : Box{EVERY, EVERY, EVERY});
@@ -191,7 +199,7 @@ Grant office_grant(Random &random)
         grant.box.doors = EVERY;
     else if (reach >= 85)
         grant.box.doors.to = bank_at(std::min(place + random.between(1, 8), BANKS - 1)).doors.to;
-    return grant;
+    return raised(grant);
 }
 
 Load head_office(Random &random, size_t size)
@@ -243,7 +251,7 @@ Load all_overlapping(Random &random, size_t size)
     Load load;
     load.name = "all overlapping";
     auto wide = [&] { return Span{one_in(random, {0, 4095}), one_in(random, {61440, 65535})}; };
-    load.grants = many(size, [&] { return Grant{0, byte_below(random, 256), byte_below(random, 2), {wide(), wide(), wide()}}; });
+    load.grants = many(size, [&] { return raised({0, byte_below(random, 256), byte_below(random, 2), {wide(), wide(), wide()}}); });
     number_spread(random, load.grants);
     const Span middle = span(3000, 62500);
     load.points = many(QUESTIONS, [&] { return point_in(random, {middle, middle, middle}); });

@@ -16,7 +16,7 @@
  *
  * Every call returns one word:
  *
- *     bits 0 to 7     the fault's number in document 01's table; 0: accepted
+ *     bits 0 to 7     the fault's number in the table below; 0: accepted
  *     bits 8 to 31    a
  *     bits 32 to 63   b
  *
@@ -34,9 +34,10 @@
  *     10  the file is not 1 to 68 whole blocks, or the block is not in it
  *     11  a block's mark, number, record count or fill is wrong, or in block 0 its n, the block count or the door order; b = the block
  *     12  a block's check is wrong; b = the block
- *     13  a record is wrong: number 0 or not above the last, kind above 1, a range that ends before it starts, doors that it does not
- *         touch; b = the block
+ *     13  a record is wrong: number 0 or not above the last, kind above 1, a range that ends before it starts, more than 1,000 doors at
+ *         a rank below 200, doors of the file that it does not touch; b = the block
  *     14  the lent bytes are too few; b = length needed
+ *     16  the grant is over more than 1,000 doors and its rank is below 200
  */
 #ifndef LG_H
 #define LG_H
@@ -61,7 +62,7 @@ extern "C" {
 uint64_t lg_start(uint16_t *pool, size_t pool_words);
 
 /* Adds a grant. kind: 0 bars, 1 opens. Both ends of each range belong to it.
- * Refuses 1, 3, 4, 2, 9, 5 and 6, in this order. Leaves: the pool with the grant live. */
+ * Refuses 1, 3, 4, 2, 16, 9, 5 and 6, in this order. Leaves: the pool with the grant live. */
 uint64_t lg_grant(uint16_t *pool, size_t pool_words, uint16_t number, uint8_t rank, uint8_t kind, uint16_t staff_from,
                   uint16_t staff_to, uint16_t door_from, uint16_t door_to, uint16_t quarter_from, uint16_t quarter_to);
 

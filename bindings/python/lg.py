@@ -29,7 +29,7 @@ Count = collections.namedtuple("Count", "live free")
 
 
 class Fault(enum.IntEnum):
-    """Document 01's faults under the library's names; tests/faults compares them with the library's.
+    """The faults of documents 01 and 02 under the library's names; tests/faults compares them with the library's.
 
     A fault is its number, its sentence and, where a value is returned beside it, which of the word's two values that is.
     """
@@ -48,6 +48,7 @@ class Fault(enum.IntEnum):
     BadChecksum = 12, "wrong check", "b"
     BadRecord = 13, "wrong record", "b"
     BufferTooShort = 14, "too few bytes", "b"
+    RankTooLow = 16, "the rank is below 200, for more than 1000 doors"
 
     def __new__(cls, number, sentence, place=None):
         fault = int.__new__(cls, number)
@@ -172,7 +173,7 @@ def start(pool):
 
 
 def grant(pool, number, rank, kind, bounds):
-    """Adds a grant; kind: 0 bars, 1 opens. Refuses 1, 3, 4, 2, 9, 5 and 6, in this order."""
+    """Adds a grant; kind: 0 bars, 1 opens. Refuses 1, 3, 4, 2, 16, 9, 5 and 6, in this order."""
     fields = _fits(WORD, number) + _fits(BYTE, rank, kind) + _box(bounds)
     address, length, _held = _words(pool)
     _unpack(_lg.lg_grant(address, length, *fields))

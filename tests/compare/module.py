@@ -67,7 +67,7 @@ def at_work(index, thread, accepted, refused):
     for i in range(GRANTS):
         number = 1 + thread * GRANTS + i
         try:
-            index.grant(number, thread, lg.OPENS, (thread, thread, i, lg.WORD, 0, lg.WORD))
+            index.grant(number, 200 + thread, lg.OPENS, (thread, thread, i, lg.WORD, 0, lg.WORD))
             accepted.append(number)
             questions[i % len(questions)]()
             if i % 4 == 3:
@@ -97,10 +97,10 @@ def try_threads():
 def try_copies():
     """A copy is an index of its own, with the same grants."""
     index = lg.Index(2)
-    index.grant(1, 0, lg.OPENS, EVERYTHING)
+    index.grant(1, 200, lg.OPENS, EVERYTHING)
     for other in (copy.copy(index), copy.deepcopy(index), pickle.loads(pickle.dumps(index))):
         check(other.list(EVERYTHING) == [1], "a copy has other grants")
-        other.grant(2, 0, lg.OPENS, EVERYTHING)
+        other.grant(2, 200, lg.OPENS, EVERYTHING)
         check(index.list(EVERYTHING) == [1], "a copy's grant is in the index that it was copied from")
 
 
@@ -120,7 +120,7 @@ def try_memory():
     odd = next(view for view in (memoryview(memory)[at : at + 26] for at in (0, 1)) if address_of(view) % 2).cast("H")
     pool = lg.Index(1).pool
     says(lambda: lg.start(odd), "even address", "%#x" % address_of(odd))
-    says(lambda: lg.grant(odd, 1, 0, lg.OPENS, EVERYTHING), "even address")
+    says(lambda: lg.grant(odd, 1, 200, lg.OPENS, EVERYTHING), "even address")
     says(lambda: lg.list_into(pool, EVERYTHING, odd), "even address")
     check(set(memory) == {0xA5}, "memory at an odd address was changed")
     check(lg.list_into(pool, EVERYTHING, odd[:0]) == 0, "no room at an odd address is not enough for no hits")

@@ -1,4 +1,4 @@
-"""Document 01's plain book: the live grants in a plain list, every question a scan of it. It shares nothing with the product."""
+"""Document 01's plain book, with document 02's cards that have landed: the live grants in a plain list, every question a scan of it. It shares nothing with the product."""
 
 CAPACITY = 2048
 
@@ -33,6 +33,12 @@ def is_reversed(ranges):
     return any(low > high for low, high in ranges)
 
 
+def is_too_wide(grant):
+    """Whether a grant is over more than 1,000 doors, both ends counted, with a rank below 200."""
+    first, last = grant.doors
+    return last - first + 1 > 1000 and grant.rank < 200
+
+
 class Grant:
     def __init__(self, number, rank, kind, *ends):
         self.number, self.rank, self.kind = number, rank, kind
@@ -65,6 +71,7 @@ class Book:
         refuse_if(grant.number == 0, 3)
         refuse_if(grant.kind > 1, 4)
         refuse_if(is_reversed(grant.box), 2)
+        refuse_if(is_too_wide(grant), 16)
         refuse_if(self.find(grant.number), 5)
         refuse_if(len(self.live) == self.capacity, 6)
         self.live = sorted(self.live + [grant], key=lambda g: g.number)

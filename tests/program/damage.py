@@ -37,6 +37,7 @@ DAMAGES = {
     "kind": change(1, 8 + 3, b"\2"),
     "staff_reversed": change(1, 8 + 4, word(151)),
     "doors_reversed": change(1, 24 + 8, word(65535)),
+    "rank_too_low": change(1, 24 + 8, word(1) + word(1001)),
     "doors_elsewhere": change(1, 24 + 8, word(500) + word(600)),
 }
 

@@ -3,7 +3,7 @@
     make_slips.py SEED COUNT > slips      with tests/plain in PYTHONPATH
 
 Equal boxes, single points, ends at 0, 32767, 32768 and 65535; numbers that are live already, revokes of live and of dead numbers; the
-refusals 2 to 7; lines of another form of many kinds. From 2600 slips on the book is filled once and listed whole, so that 6 comes too.
+refusals 2 to 7 and 16, alone and together; 1,000 doors and 1,001, rank 199 and 200; lines of another form of many kinds. From 2600 slips on the book is filled once and listed whole, so that 6 comes too.
 """
 import sys
 
@@ -65,6 +65,11 @@ class Slips:
         at = [self.value() for _ in range(3)]
         return tuple(v for x in at for v in (x, min(x + self.numbers.below(3), 65535)))
 
+    def with_doors(self, box, apart):
+        """The same box with other doors, the last of them so far behind the first."""
+        first = self.numbers.below(65536 - apart)
+        return box[:2] + (first, first + apart) + box[4:]
+
     def turned(self, box):
         """The same box with one range from above to."""
         turned = list(box)
@@ -86,31 +91,33 @@ class Slips:
     def rank(self):
         return self.numbers.one_of([0, 1, 1, 7, 254, 255, self.numbers.below(256)])
 
+    def rank_for(self, box):
+        """A rank that is high enough for the doors of a box."""
+        return self.rank() if box[3] - box[2] < 1000 else self.numbers.one_of([200, 200, 201, 254, 255])
+
     def granted(self, box):
         n = self.fresh() if self.live else self.numbers.one_of([7, 65535])
         if len(self.live) < CAPACITY:
             self.live.append(n)
-        return self.grant(n, self.rank(), self.numbers.below(2), box)
+        if self.numbers.chance(6):
+            return self.grant(n, 199, self.numbers.below(2), self.with_doors(box, 999))
+        if self.numbers.chance(6):
+            return self.grant(n, 200, self.numbers.below(2), self.with_doors(box, 1000))
+        return self.grant(n, self.rank_for(box), self.numbers.below(2), box)
 
     def live_number(self):
         return self.numbers.one_of(self.live) if self.live else 1
 
     def refused_grant(self):
-        n, rank, kind, box = self.fresh(), self.rank(), self.numbers.below(2), self.box()
-        way = self.numbers.below(8)
-        if way == 0:
-            return self.grant(0, rank, kind, box)
-        if way == 1:
-            return self.grant(0, rank, 2, self.turned(box))
-        if way == 2:
-            return self.grant(n, rank, self.numbers.one_of([2, 3, 255]), box)
-        if way == 3:
-            return self.grant(n, rank, 2, self.turned(box))
-        if way == 4:
-            return self.grant(n, rank, kind, self.turned(box))
-        if way == 5:
-            return self.grant(self.live_number(), rank, kind, self.turned(box))
-        return self.grant(self.live_number(), rank, kind, box)
+        """A grant with one or several of the faults 3, 4, 2, 16 and 5."""
+        n, live, rank, kind, box = self.fresh(), self.live_number(), self.rank(), self.numbers.below(2), self.box()
+        ways = [(0, kind, box), (live, kind, box), (live, kind, box), (n, self.numbers.one_of([2, 3, 255]), box)]
+        if self.numbers.chance(40):
+            rank, box = self.numbers.one_of([0, 1, 199]), self.with_doors(box, self.numbers.one_of([1000, 1001, 65535]))
+            ways = [(n, kind, box), (0, kind, box), (live, kind, box), (n, 2, box)]
+        turned = self.turned(box)
+        number, kind, box = self.numbers.one_of(ways + [(0, 2, turned), (n, 2, turned), (n, kind, turned), (live, kind, turned)])
+        return self.grant(number, rank, kind, box)
 
     def revoke(self):
         way = self.numbers.below(6)

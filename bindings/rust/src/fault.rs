@@ -74,10 +74,12 @@ faults! {
     11 => BadLayout { block: u32 = b }, "block {block}: wrong mark, number, counts, door order or fill";
     /// a block's check is wrong.
     12 => BadChecksum { block: u32 = b }, "block {block}: wrong check";
-    /// a record is none, or out of order, or does not touch the file's doors.
+    /// a record is none, or out of order, or its rank is too low for its doors, or it does not touch the file's doors.
     13 => BadRecord { block: u32 = b }, "block {block}: wrong record";
     /// the lent bytes are too few.
     14 => BufferTooShort { needed: usize = b }, "too few bytes: {needed} needed";
+    /// a grant over more than 1,000 doors has a rank below 200.
+    16 => RankTooLow, "the rank is below 200, for more than 1000 doors";
 }
 
 impl std::error::Error for Fault {}

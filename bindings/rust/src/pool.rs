@@ -18,7 +18,7 @@ pub fn start(pool: &mut [u16]) -> Result<(), Fault> {
     unpack(unsafe { ffi::lg_start(pool.as_mut_ptr(), pool.len()) }).map(|_| ())
 }
 
-/// Adds a grant; the kind is a number, 0 bars and 1 opens. Refuses 1, 3, 4, 2, 9, 5 and 6, in this order.
+/// Adds a grant; the kind is a number, 0 bars and 1 opens. Refuses 1, 3, 4, 2, 16, 9, 5 and 6, in this order.
 pub fn grant(pool: &mut [u16], number: u16, rank: u8, kind: u8, bounds: Bounds) -> Result<(), Fault> {
     let Bounds { staff, doors, quarters } = bounds;
     unpack(unsafe {

@@ -21,7 +21,7 @@ fn a_capacity_that_no_index_has_is_told() {
 fn readers_share_an_index() {
     let mut index = Index::new(64).unwrap();
     for number in 1..=64 {
-        index.grant(&Grant { number, rank: 0, kind: Kind::Opens, bounds: EVERYTHING }).unwrap();
+        index.grant(&Grant { number, rank: 255, kind: Kind::Opens, bounds: EVERYTHING }).unwrap();
     }
     let index = &index;
     std::thread::scope(|threads| {

@@ -37,7 +37,7 @@ pub extern "C" fn lg_start(pool: &mut [u16]) -> u64
     pack_outcome(start(pool))
 }
 
-// Refuses 1, 3, 4, 2, 9, 5 and 6, in this order.
+// Refuses 1, 3, 4, 2, 16, 9, 5 and 6, in this order.
 #[no_mangle]
 pub extern "C" fn lg_grant(
     pool: &mut [u16],

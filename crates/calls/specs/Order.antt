@@ -1,7 +1,7 @@
 -- Document 01's order line ("Faults"): for each call its faults with their causes, in the order in which they answer.
 -- What the call's walks found comes as arguments, `broken`, that one of them met a cause of 9, and `hits`, the cells of its search's hits
 -- in order: the calls take both from the walks that stop, demand 1 takes them from document 01's links.
--- Changed by cards 3, 8, 12 and 14. Assumes nothing: these are definitions.
+-- Changed by cards 8, 12 and 14. Assumes nothing: these are definitions.
 use Prim.Native.Nat.{ℕ}
 use mathlib.Core.Bool.{Bool, not}
 use mathlib.Core.List.{List, [], _∷_, _++_}

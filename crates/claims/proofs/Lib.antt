@@ -4,9 +4,11 @@ pub mod MarkedCases
 pub mod Pools
 pub mod LinkCases
 pub mod FaultCases
+pub mod SeniorCases
 pub mod TriedCases
 pub mod MadeLaws
 pub mod KeepsLaws
+pub mod SeniorLaws
 pub mod Demand1
 pub mod Demand2
 pub mod Demand3

@@ -3,6 +3,7 @@
 --                 cell revoked; pools that a revoke left; fault 9 on cyclic links; a file of two grants, byte for byte, and its verdict
 --   linkCases     of LinkCases: fault 9 on scrambled pools, by the links and by the calls
 --   faultCases    of FaultCases: faults 1, 10, 11 and 14
+--   seniorCases   of SeniorCases: fault 16, and records and cells that break its rule
 use Prim.Native.Nat.{ℕ, _+_, _-_, _*_, _%_, _/_}
 use mathlib.Core.Bool.{Bool, true, false, cond}
 use mathlib.Core.List.{List, [], _∷_, _++_, map, flatMap}
@@ -55,6 +56,7 @@ use Rattle.claims.proofs.Cases.{Case, passed, box, one, test}
 use Rattle.claims.proofs.Cases as say
 use Rattle.claims.proofs.LinkCases.{linkCases}
 use Rattle.claims.proofs.FaultCases.{faultCases}
+use Rattle.claims.proofs.SeniorCases.{seniorCases}
 
 -- document 01's two grants of the slips
 abbrev seven : Request
@@ -263,7 +265,7 @@ cases =
     ∷ record { given = say.responses (loadCall (replicate 13 1) (fileOf doors two) .answer); wanted = one 6 }
     ∷ []
 
-pub tried-cases : T (passed (cases ++ linkCases ++ faultCases))
+pub tried-cases : T (passed (cases ++ linkCases ++ faultCases ++ seniorCases))
 unfolding filter every any each sameNumbers countFrom overwrite insertBy sortBy overlaps sameGrant firstFault refusing reversedBox outranks decidingOf
     decideAmong bookGrant bookRevoke bookList bookDecide bookCount bookStep rootRegion half meets pointOf inside rangeOfBox rangeOfDoors rangeOfNumber
     place fieldOf capacityOf wrongLength wrongPool grantAt withCell freeCells freshPool meet visitBy enter search descendFrom descend freeBroken inserted

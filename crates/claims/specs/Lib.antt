@@ -1,7 +1,8 @@
--- The claims: demands 1 to 3, and what C, slips, journals and the panel show.
+-- The claims: demands 1 to 3, wide grants, and what C, slips, journals and the panel show.
 pub mod Made
 pub mod KeepsGrants
 pub mod Claims
+pub mod SeniorGrants
 pub mod SlipClaims
 pub mod JournalClaims
 pub mod PanelClaims

@@ -1,5 +1,6 @@
 // What is wrong in a file, in words for a clerk: document 01's number of the fault, what is wrong and where, and what to do. A line.
 use crate::common::say_grants;
+use crate::messages::put_seniority;
 use console::output::Stream;
 use console::output::put;
 use console::output::put_number;
@@ -60,6 +61,10 @@ fn say_record_fault(out: Stream, wrong: RecordFault) -> Stream {
         RecordFault::Reversed => put(
             out,
             b": one of its ranges starts above its end; ask for the file again\n",
+        ),
+        RecordFault::RankTooLow => put(
+            put_seniority(put(out, b": ")),
+            b"; have it corrected, then ask for the file again\n",
         ),
         RecordFault::Doors => put(
             out,

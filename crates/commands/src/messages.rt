@@ -4,11 +4,20 @@ use console::output::put;
 use console::output::put_number;
 use model::Fault;
 use model::faults::fault_number;
+use model::seniority::MAX_JUNIOR_DOORS;
+use model::seniority::SENIOR_RANK;
 
 // A number between two pieces of text.
 fn put_valued(to: Stream, before: &[u8], n: usize, after: &[u8]) -> Stream {
     let numbered = put_number(put(to, before), n);
     put(numbered, after)
+}
+
+// What a wide grant needs.
+pub fn put_seniority(to: Stream) -> Stream {
+    let doors = put_number(put(to, b"a grant for more than "), MAX_JUNIOR_DOORS);
+    let ranked = put_number(put(doors, b" doors needs rank "), SENIOR_RANK as usize);
+    put(ranked, b" or above")
 }
 
 // A sentence for each fault, so that a new fault can't be passed over.
@@ -79,6 +88,10 @@ fn put_fault(to: Stream, f: Fault) -> Stream {
             b"the file takes ",
             needed,
             b" bytes, more than there is room for: cut fewer doors",
+        ),
+        Fault::RankTooLow => put(
+            put_seniority(to),
+            b": let a supervisor give it that rank, or name fewer doors",
         ),
     }
 }

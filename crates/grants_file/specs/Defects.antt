@@ -10,7 +10,7 @@
 --   defectFault x                  the fault that a defect stands for
 --   firstDefect cs                 the first that is there, Sound where none is; by `defectFault-first` of proofs/DefectLaws it is the first fault's
 --   defectIn f                     what is wrong in a file
--- Changed by cards 2 and 3. Assumes nothing: these are definitions.
+-- Changed by card 2. Assumes nothing: these are definitions.
 use Prim.Native.Nat.{ℕ, zero, suc, _-_}
 use mathlib.Core.Bool.{Bool, true, false, cond, not, _&&_}
 use mathlib.Core.List.{List, [], _∷_, _++_, map, flatMap}
@@ -29,7 +29,7 @@ use Rattle.grants_file.specs.declared.Defect.{Defect}
 use Rattle.grants_file.specs.declared.Defect.the-variants.{Sound, Length, Checksum, Mark, BlockNumber, TooManyGrants, BlockCount}
 use Rattle.grants_file.specs.declared.Defect.the-variants.{RecordCount, DoorOrder, Padding, Record}
 use Rattle.grants_file.specs.declared.RecordFault.{RecordFault}
-use Rattle.grants_file.specs.declared.RecordFault.the-variants.{NumberOrder, Kind, Reversed, Doors}
+use Rattle.grants_file.specs.declared.RecordFault.the-variants.{NumberOrder, Kind, Reversed, RankTooLow, Doors}
 use Rattle.grants_file.specs.Layout.{numberPlace, headerEnd, recordBytes, recordPlace, lastRecordPlace}
 use Rattle.grants_file.specs.Bytes.{be16At, bytesAt}
 use Rattle.grants_file.specs.Record.{recordNumber, recordRequest, decodeRecord}
@@ -69,6 +69,7 @@ abbrev pub recordFault : RequestFault → RecordFault
 recordFault wrong.ZeroNumber = NumberOrder
 recordFault wrong.UnknownKind = Kind
 recordFault wrong.Reversed = Reversed
+recordFault wrong.RankTooLow = RankTooLow
 
 abbrev pub requestDefects : ℕ → ℕ → List ℕ → List DefectCause
 requestDefects i k r = map (λ x. Record i k (recordNumber r) (recordFault x) when wrongIn (recordRequest r) x) requestOrder

@@ -52,11 +52,13 @@ pub enum Defect {
     },
 }
 
-// Fault 13's causes: a number that is 0 or not above the last, a kind above 1, a from above its to, doors that the file's don't touch.
+// Fault 13's causes: a number that is 0 or not above the last, a kind above 1, a from above its to, a rank too low for its doors, doors that the
+// file's don't touch.
 pub enum RecordFault {
     NumberOrder,
     Kind,
     Reversed,
+    RankTooLow,
     Doors,
 }
 

@@ -26,6 +26,7 @@ fn record_fault(wrong: RequestFault) -> RecordFault
         RequestFault::ZeroNumber => RecordFault::NumberOrder,
         RequestFault::UnknownKind => RecordFault::Kind,
         RequestFault::Reversed => RecordFault::Reversed,
+        RequestFault::RankTooLow => RecordFault::RankTooLow,
     }
 }
 

@@ -1,4 +1,4 @@
-// grant: adds a grant. Refuses 1, 3, 4, 2, 9, 5 and 6, in this order, and then leaves everything as it was.
+// grant: adds a grant. Refuses 1, 3, 4, 2, 16, 9, 5 and 6, in this order, and then leaves everything as it was.
 ghost use Rattle.model.specs.Answer.{outcomeAnswer};
 ghost use Rattle.model.specs.Call.{request};
 ghost use Rattle.calls.specs.Calls.{grantCall};

@@ -7,5 +7,6 @@ pub mod SoundLaws
 pub mod BookLaws
 pub mod AnswerLaws
 pub mod GrantLaws
+pub mod SeniorityLaws
 pub mod ArgumentLaws
 pub mod JudgedLaws

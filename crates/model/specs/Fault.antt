@@ -1,10 +1,10 @@
--- Document 01's table of faults: the number of each, and the values that it returns beside it.
+-- Document 01's table of faults, with 16 of document 02's card 3: the number of each, and the values that it returns beside it.
 -- Assumes nothing: these are definitions.
 use Prim.Native.Nat.{ℕ}
 use mathlib.Core.List.{List, [], _∷_}
 use Rattle.model.specs.declared.Fault.{Fault}
 use Rattle.model.specs.declared.Fault.the-variants.{BadPool, Reversed, ZeroNumber, UnknownKind, AlreadyLive, Full, NotLive, ListTooShort}
-use Rattle.model.specs.declared.Fault.the-variants.{BrokenLinks, BadLength, BadLayout, BadChecksum, BadRecord, BufferTooShort}
+use Rattle.model.specs.declared.Fault.the-variants.{BrokenLinks, BadLength, BadLayout, BadChecksum, BadRecord, BufferTooShort, RankTooLow}
 
 abbrev pub faultNumber : Fault → ℕ
 faultNumber BadPool = 1
@@ -21,6 +21,7 @@ faultNumber (BadLayout block) = 11
 faultNumber (BadChecksum block) = 12
 faultNumber (BadRecord block) = 13
 faultNumber (BufferTooShort needed) = 14
+faultNumber RankTooLow = 16
 
 abbrev pub faultValues : Fault → List ℕ
 faultValues BadPool = []
@@ -37,3 +38,4 @@ faultValues (BadLayout block) = block ∷ []
 faultValues (BadChecksum block) = block ∷ []
 faultValues (BadRecord block) = block ∷ []
 faultValues (BufferTooShort needed) = needed ∷ []
+faultValues RankTooLow = []

@@ -8,6 +8,7 @@ pub mod Grant
 pub mod Fault
 pub mod Answer
 pub mod Refusal
+pub mod Seniority
 pub mod Arguments
 pub mod Decide
 pub mod Call

@@ -23,6 +23,7 @@ pub fn fault_number(f: Fault) -> usize
         Fault::BadChecksum { block: _ } => 12,
         Fault::BadRecord { block: _ } => 13,
         Fault::BufferTooShort { needed: _ } => 14,
+        Fault::RankTooLow => 16,
     }
 }
 
@@ -45,5 +46,6 @@ pub fn fault_value(f: Fault) -> usize
         Fault::BadChecksum { block } => block,
         Fault::BadRecord { block } => block,
         Fault::BufferTooShort { needed } => needed,
+        Fault::RankTooLow => 0,
     }
 }

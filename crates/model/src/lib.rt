@@ -7,6 +7,7 @@ pub mod decide;
 pub mod faults;
 pub mod kinds;
 pub mod same;
+pub mod seniority;
 
 // Document 01's highest C, and the highest n of a file.
 pub const MAX_GRANTS: usize = 2048;
@@ -35,7 +36,7 @@ pub struct Grant {
     pub bounds: Box,
 }
 
-// Document 01's faults 1 to 14, in this order.
+// Document 01's faults 1 to 14, in this order, then document 02's 16.
 pub enum Fault {
     BadPool,
     Reversed,
@@ -51,13 +52,15 @@ pub enum Fault {
     BadChecksum { block: usize },
     BadRecord { block: usize },
     BufferTooShort { needed: usize },
+    RankTooLow,
 }
 
-// What can be wrong in the values of a grant that is asked for: faults 3, 4 and 2, in the order in which they answer.
+// What can be wrong in the values of a grant that is asked for: faults 3, 4, 2 and 16, in the order in which they answer.
 pub enum RequestFault {
     ZeroNumber,
     UnknownKind,
     Reversed,
+    RankTooLow,
 }
 
 // Whether a request for a grant is right, or what is wrong in it first.

@@ -114,6 +114,21 @@ impl Puts<'_> {
             at + 8,
             &[(0, below), (above, 65535), (0, doors.0), (doors.1, 65535), (below, above), (below, below), (above, above)],
         );
+        self.wide(at, doors);
+    }
+
+    /// A record's rank and doors at the bound where the rank gets too low, the doors from the file's on or just ending with them.
+    fn wide(&mut self, at: usize, doors: (u16, u16)) {
+        let kind = self.file[BLOCK * self.block + at + 3];
+        for apart in [999, 1000] {
+            let from_first = (doors.0, doors.0.saturating_add(apart));
+            let to_last = (doors.1.saturating_sub(apart), doors.1);
+            for (rank, span) in [(199, from_first), (200, from_first), (199, to_last), (200, to_last)] {
+                let staff = &self.file[BLOCK * self.block + at + 4..][..4];
+                let bytes = [&[rank, kind], staff, &span.0.to_be_bytes(), &span.1.to_be_bytes()].concat();
+                self.put(at + 2, &bytes);
+            }
+        }
     }
 }
 

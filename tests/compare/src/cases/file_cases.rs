@@ -3,7 +3,7 @@
 use crate::cases::case::Case;
 use crate::cases::damage::{block_damage, damaged, Put};
 use crate::cases::random::Random;
-use crate::cases::styles::Style;
+use crate::cases::styles::{make_senior, Style};
 use crate::interface::call::Call;
 use crate::interface::grant::{Grant, Span};
 use crate::oracle::file::{check, file_of, number_at, put_number, BLOCK, CHECK, MOST_BLOCKS};
@@ -22,6 +22,7 @@ pub fn sample(random: &mut Random, n: usize) -> Vec<u8> {
             let own = grant.bounds[1];
             grant.bounds[1] = (own.0.min(DOORS.1), own.1.max(DOORS.0));
             grant.number = (i * 31 + 5 + random.below(20)) as u16;
+            make_senior(&mut grant);
             grant
         })
         .collect();

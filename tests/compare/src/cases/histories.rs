@@ -2,9 +2,10 @@
 
 use crate::cases::case::Case;
 use crate::cases::random::Random;
-use crate::cases::styles::{spoil, Style};
+use crate::cases::styles::{make_senior, spoil, Style};
 use crate::interface::call::Call;
 use crate::interface::grant::{Bounds, Grant, Span};
+use crate::oracle::arguments::argument_fault;
 use crate::oracle::book::Book;
 use crate::oracle::file::file_of;
 use crate::oracle::judge::judge;
@@ -65,8 +66,11 @@ impl Clerk<'_> {
 
     fn grant(&mut self) {
         let grant = self.style.grant(self.random);
-        let _ = self.book.grant(grant);
-        self.calls.push(Call::Grant(grant));
+        let call = Call::Grant(grant);
+        if argument_fault(&call, Wrong::Nothing).is_none() {
+            let _ = self.book.grant(grant);
+        }
+        self.calls.push(call);
     }
 
     /// A live number more often than not.
@@ -205,6 +209,9 @@ pub fn set_of_grants(random: &mut Random, style: Style, most: usize, doors: Span
     for grant in &mut grants {
         let own = &mut grant.bounds[1];
         *own = (own.0.min(doors.1), own.1.max(doors.0));
+        if !random.one_in(20) {
+            make_senior(grant);
+        }
     }
     grants.sort_by_key(|grant| grant.number);
     grants.dedup_by_key(|grant| grant.number);

@@ -27,13 +27,14 @@ pub fn scrambled(random: &mut Random, most: usize) -> Case {
     };
     let style = Style::any(random, capacity);
     let mut grant = style.grant(random);
-    let words = match random.below(9) {
+    let words = match random.below(10) {
         0 => noise(random, capacity),
         1 | 2 => plausible(random, capacity, style),
         3 => cycle(random, capacity, style),
         4 => chain(random, &grant),
         5 => removal_trap(random, capacity, &mut grant),
         6 => wrong_frame(random, capacity),
+        7 => lowered(random, capacity, style),
         _ => changed(random, capacity, style),
     };
     let scrambled = Scrambled { words, grant };
@@ -217,6 +218,19 @@ fn wrong_frame(random: &mut Random, capacity: usize) -> Vec<u16> {
         1 => words.resize(random.pick(&[0, 1, 2, 3, 4, 12, 14, 22, 20482, 20484, 20493]), 0),
         2 => words.resize(words.len() + 65536, 0),
         _ => words[0] = words[0].wrapping_add(random.pick(&[1, 65535, 2048])),
+    }
+    words
+}
+
+/// The pool of an honest history with ranks made too low for their doors: its links are sound, and no cell is wrong by what it holds.
+fn lowered(random: &mut Random, capacity: usize, style: Style) -> Vec<u16> {
+    let grants = set_of_grants(random, style, capacity, (0, 65535));
+    let mut words = Honest::load(capacity, &grants, Wrong::Nothing).words;
+    for cell in 1..=capacity as u16 {
+        if random.one_in(2) {
+            let rank_word = left_of(cell) + 3;
+            words[rank_word] %= 2 * 200;
+        }
     }
     words
 }

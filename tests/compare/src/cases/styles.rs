@@ -1,7 +1,9 @@
 //! Random grants and boxes of several styles: each run of calls keeps to one, so that grants meet each other.
 
 use crate::cases::random::Random;
-use crate::interface::grant::{Bounds, Grant, Span, EVERYTHING};
+use crate::interface::grant::{Bounds, Grant, Span, DOORS, EVERYTHING};
+use crate::oracle::arguments::rank_too_low;
+use crate::oracle::wrong::Wrong;
 
 /// Values at which something changes side.
 const ENDS: [u16; 10] = [0, 1, 2, 32766, 32767, 32768, 32769, 65533, 65534, 65535];
@@ -106,7 +108,13 @@ impl Style {
             ranks => random.below(usize::from(ranks)) as u8,
         };
         let bounds = self.bounds(random);
-        Grant { number: self.number(random), rank, kind: random.below(2) as u8, bounds }
+        let mut grant = Grant { number: self.number(random), rank, kind: random.below(2) as u8, bounds };
+        match random.below(16) {
+            0 => at_the_bound(random, &mut grant),
+            1 => {}
+            _ => make_senior(&mut grant),
+        }
+        grant
     }
 
     /// A point to ask at: any, or an end of a box.
@@ -115,9 +123,34 @@ impl Style {
     }
 }
 
-/// Puts one or several faults into a grant that is to be an argument: number 0, kind above 1, a span reversed.
+/// Raises a rank that is too low for its doors; equal ranks stay equal.
+pub fn make_senior(grant: &mut Grant) {
+    if rank_too_low(grant.rank, grant.bounds[DOORS], Wrong::Nothing) {
+        grant.rank = 200 + grant.rank % 56;
+    }
+}
+
+/// A rank that is just too low or just not, with doors of which there are just too many or just not.
+fn at_the_bound(random: &mut Random, grant: &mut Grant) {
+    grant.rank = random.pick(&[199, 200]);
+    grant.bounds[DOORS] = widened(random, grant.bounds[DOORS], &[999, 1000]);
+}
+
+/// Doors from the same first one on, or ending with the last there is.
+fn widened(random: &mut Random, doors: Span, apart: &[u16]) -> Span {
+    let apart = random.pick(apart);
+    let from = doors.0.min(65535 - apart);
+    (from, from + apart)
+}
+
+/// Puts one or several faults into a grant that is to be an argument: number 0, kind above 1, a rank too low for its doors, a span
+/// reversed.
 pub fn spoil(random: &mut Random, grant: &mut Grant) {
-    let faults = 1 + random.below(7);
+    let faults = 1 + random.below(15);
+    if faults & 8 != 0 {
+        grant.rank %= 200;
+        grant.bounds[DOORS] = widened(random, grant.bounds[DOORS], &[1000, 1001, 40000, 65535]);
+    }
     if faults & 1 != 0 {
         grant.number = 0;
     }

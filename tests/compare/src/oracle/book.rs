@@ -2,6 +2,7 @@
 
 use crate::interface::answer::{fault, Fault};
 use crate::interface::grant::{Bounds, Grant, Span, DOORS};
+use crate::oracle::arguments::rank_too_low;
 use crate::oracle::overlap::{boxes_overlap, spans_overlap};
 use crate::oracle::wrong::Wrong;
 
@@ -56,7 +57,11 @@ impl Book {
 
     /// The numbers that list writes into `lent` elements.
     pub fn list(&self, bounds: &Bounds, lent: usize) -> Result<Vec<u16>, Fault> {
-        let mut numbers: Vec<u16> = self.overlapping(bounds).iter().map(|grant| grant.number).collect();
+        let mut grants = self.overlapping(bounds);
+        if self.wrong == Wrong::ListLeavesWideCellsOut {
+            grants.retain(|grant| !rank_too_low(grant.rank, grant.bounds[DOORS], self.wrong));
+        }
+        let mut numbers: Vec<u16> = grants.iter().map(|grant| grant.number).collect();
         if self.wrong == Wrong::ListDescending {
             numbers.reverse();
         }

@@ -3,8 +3,9 @@
 
 use crate::interface::answer::{Answer, Fault};
 use crate::interface::call::Call;
-use crate::interface::grant::Grant;
+use crate::interface::grant::{Grant, DOORS};
 use crate::interface::lent::Lent;
+use crate::oracle::arguments::rank_too_low;
 use crate::oracle::book::Book;
 use crate::oracle::file::file_of;
 use crate::oracle::judge::Contents;
@@ -20,6 +21,13 @@ pub struct Honest {
 impl Honest {
     pub fn start(capacity: usize, wrong: Wrong) -> Honest {
         Honest { book: Book::new(capacity, wrong), words: fresh(capacity), wrong }
+    }
+
+    /// A pool whose cells hold these grants, ascending by number.
+    pub fn of(words: &[u16], live: Vec<Grant>, wrong: Wrong) -> Honest {
+        let mut book = Book::new(usize::from(words[0]), wrong);
+        book.live = live;
+        Honest { book, words: words.to_vec(), wrong }
     }
 
     /// Start, and then grants in file order.
@@ -57,7 +65,7 @@ impl Honest {
                 Answer::Decided(decided)
             }
             Call::Write(doors, length) => {
-                let file = file_of(*doors, &self.book.touching(*doors), self.wrong);
+                let file = file_of(*doors, &self.taken(self.book.touching(*doors), Wrong::WriteLeavesWideCellsOut), self.wrong);
                 lend_file(lent, &file, *length)?;
                 Answer::Written(file.len())
             }
@@ -71,10 +79,16 @@ impl Honest {
     fn first_difference(&self, file: &Contents) -> Option<u16> {
         let own = match self.wrong {
             Wrong::MatchSeesOtherDoors => self.book.live.clone(),
-            _ => self.book.touching(file.doors),
+            _ => self.taken(self.book.touching(file.doors), Wrong::MatchLeavesWideCellsOut),
         };
         let numbers = own.iter().chain(&file.grants).map(|grant| grant.number);
         numbers.filter(|&number| self.seen(&own, number) != self.seen(&file.grants, number)).min()
+    }
+
+    /// The grants, without those that break the rule of 16 where a wrong version leaves them out.
+    fn taken(&self, mut grants: Vec<Grant>, version: Wrong) -> Vec<Grant> {
+        grants.retain(|grant| self.wrong != version || !rank_too_low(grant.rank, grant.bounds[DOORS], self.wrong));
+        grants
     }
 
     fn seen(&self, grants: &[Grant], number: u16) -> Option<Grant> {

@@ -3,6 +3,7 @@
 
 use crate::interface::answer::{fault, Fault};
 use crate::interface::grant::{Grant, Span, DOORS};
+use crate::oracle::arguments::rank_too_low;
 use crate::oracle::file::{
     blocks_for, check_of_block, grant_of_record, number_at, BLOCK, CHECK, FIRST_RECORD, HEAD_END, MARK, MOST_BLOCKS, MOST_GRANTS,
     RECORD, RECORDS,
@@ -168,6 +169,13 @@ fn wrong_record(grant: &Grant, last: Option<u16>, at_edge: bool, doors: Span, wr
     }
     if quarters.0 > quarters.1 {
         return Some("quarter from above to");
+    }
+    let counted = match wrong {
+        Wrong::OnlyTheFilesDoorsCount => (own_doors.0.max(doors.0), own_doors.1.min(doors.1)),
+        _ => own_doors,
+    };
+    if wrong != Wrong::WideRecordsTaken && rank_too_low(grant.rank, counted, wrong) {
+        return Some("rank too low for its doors");
     }
     (!spans_overlap(grant.bounds[DOORS], doors, wrong)).then_some("doors not touching")
 }

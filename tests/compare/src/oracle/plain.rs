@@ -4,12 +4,13 @@ use crate::interface::answer::{fault, Answer, Fault};
 use crate::interface::call::Call;
 use crate::interface::grant::Grant;
 use crate::interface::lent::Lent;
-use crate::oracle::arguments::argument_fault;
+use crate::oracle::arguments::{argument_fault, is_too_wide};
 use crate::oracle::block_read;
 use crate::oracle::honest::Honest;
 use crate::oracle::judge::{self, judge, Contents};
 use crate::oracle::layout::capacity_of;
 use crate::oracle::scrambled;
+use crate::oracle::sound::grants_in;
 use crate::oracle::wrong::Wrong;
 
 /// What must be seen after a call.
@@ -24,7 +25,7 @@ pub struct Expected {
 }
 
 enum Standing {
-    /// Start or load and later accepted calls made the pool.
+    /// Start or load and later accepted calls made the pool, or it is as sound as one that they made.
     Honest(Honest),
     Scrambled(Vec<u16>),
 }
@@ -38,9 +39,14 @@ pub struct Plain {
 type Refused = (Fault, String);
 
 impl Plain {
-    /// A pool of any words; nothing is known of where they come from.
+    /// A pool of any words; nothing is known of where they come from. One whose links are sound answers from its cells, whatever ranks
+    /// and doors they have.
     pub fn new(words: &[u16], wrong: Wrong) -> Plain {
-        Plain { standing: Standing::Scrambled(words.to_vec()), wrong }
+        let standing = match grants_in(words) {
+            Some(live) => Standing::Honest(Honest::of(words, live, wrong)),
+            None => Standing::Scrambled(words.to_vec()),
+        };
+        Plain { standing, wrong }
     }
 
     /// The words that the pool must have.
@@ -95,7 +101,7 @@ impl Plain {
         if let (Call::Match(file), Wrong::FileBeforePool) = (call, self.wrong) {
             judge(file, self.wrong).map_err(file_cause)?;
         }
-        let capacity = self.capacity(call).ok_or((fault(1), String::new()))?;
+        let capacity = self.capacity(call).ok_or_else(|| (fault(1), before_sixteen(call)))?;
         match call {
             Call::Start => self.standing = Standing::Honest(Honest::start(capacity, self.wrong)),
             Call::Load(file) => self.load(capacity, file)?,
@@ -127,10 +133,10 @@ impl Plain {
     /// The calls that walk.
     fn walk(&mut self, call: &Call, lent: &mut Lent) -> Result<Option<Answer>, Refused> {
         if let Some(fault) = argument_fault(call, self.wrong) {
-            if self.wrong == Wrong::WalksBeforeArguments {
+            if self.wrong == Wrong::WalksBeforeArguments || self.wrong == Wrong::WalksBeforeWide && fault.number == 16 {
                 scrambled_step(self.words(), call, None, self.wrong)?;
             }
-            return Err((fault, String::new()));
+            return Err((fault, self.masked(call, fault)));
         }
         let file = match call {
             Call::Match(file) => Some(judge(file, self.wrong).map_err(file_cause)?),
@@ -140,6 +146,25 @@ impl Plain {
             Standing::Honest(honest) => honest_step(honest, call, lent, file.as_ref(), self.wrong),
             Standing::Scrambled(words) => scrambled_step(words, call, file.as_ref(), self.wrong),
         }
+    }
+
+    /// Of a grant that breaks the rule of 16: which fault it has beside the one that answers.
+    fn masked(&self, call: &Call, fault: Fault) -> String {
+        if fault.number != 16 {
+            return before_sixteen(call);
+        }
+        match scrambled::refusal(self.words(), call, None, Wrong::Nothing) {
+            Err((behind, _)) => format!(" before {}", behind.number),
+            Ok(()) => String::new(),
+        }
+    }
+}
+
+/// Of a grant that 16 would refuse: that another fault does.
+fn before_sixteen(call: &Call) -> String {
+    match is_too_wide(call, Wrong::Nothing) {
+        true => " before 16".to_string(),
+        false => String::new(),
     }
 }
 

@@ -2,7 +2,7 @@
 //! live grants, each with its point in its region and none behind more than 112 others.
 
 use crate::interface::grant::Grant;
-use crate::oracle::layout::{cell_words, left_of, right_of, FREE_HEAD, ROOT};
+use crate::oracle::layout::{capacity_of, cell_words, left_of, right_of, FREE_HEAD, ROOT};
 use crate::oracle::tree::{halves, holds, point_in, Region, DEEPEST, WHOLE};
 
 struct Reached<'a> {
@@ -12,10 +12,26 @@ struct Reached<'a> {
 }
 
 pub fn is_sound(words: &[u16], live: &[Grant]) -> bool {
+    reached_from(words).is_some_and(|reached| reached == live)
+}
+
+/// The grants in the cells of a pool that is sound but for what the cells hold of rank, doors and the like, ascending by number. None
+/// where it isn't, or where its cells hold what the plain book can't: number 0, a number twice, a rank above 255, a span reversed.
+pub fn grants_in(words: &[u16]) -> Option<Vec<Grant>> {
+    let capacity = capacity_of(words)?;
+    let live = (usize::from(words[0]) == capacity).then(|| reached_from(words))??;
+    let numbered = live.first().is_none_or(|grant| grant.number > 0) && live.windows(2).all(|two| two[0].number < two[1].number);
+    let ranked = (1..=capacity as u16).all(|cell| cell_words(words, cell)[3] < 512);
+    let ordered = live.iter().all(|grant| grant.bounds.iter().all(|span| span.0 <= span.1));
+    (numbered && ranked && ordered).then_some(live)
+}
+
+/// The grants in the cells that the root reaches, ascending by number, where root and free head reach each cell once.
+fn reached_from(words: &[u16]) -> Option<Vec<Grant>> {
     let mut reached = Reached { words, seen: vec![false; usize::from(words[0])], live: Vec::new() };
     let linked = reached.tree(words[ROOT], 0, &WHOLE) && reached.free(words[FREE_HEAD]);
     reached.live.sort_by_key(|grant| grant.number);
-    linked && reached.seen.iter().all(|seen| *seen) && reached.live == live
+    (linked && reached.seen.iter().all(|seen| *seen)).then_some(reached.live)
 }
 
 impl Reached<'_> {

@@ -42,10 +42,20 @@ pub enum Wrong {
     CheckTakenModulo,
     ChecksOfAllBlocksFirst,
     LengthsCutTo16Bits,
+    ThousandDoorsAreWide,
+    DoorsCountedBetweenTheEnds,
+    RankTwoHundredIsLow,
+    WideBeforeTheBox,
+    WalksBeforeWide,
+    WideRecordsTaken,
+    OnlyTheFilesDoorsCount,
+    ListLeavesWideCellsOut,
+    WriteLeavesWideCellsOut,
+    MatchLeavesWideCellsOut,
 }
 
 /// All of them, but for the right one.
-pub const ALL: [Wrong; 38] = [
+pub const ALL: [Wrong; 48] = [
     Wrong::LowerNumberAtEqualRank,
     Wrong::EndsOutsideTheBox,
     Wrong::ListDescending,
@@ -84,4 +94,14 @@ pub const ALL: [Wrong; 38] = [
     Wrong::CheckTakenModulo,
     Wrong::ChecksOfAllBlocksFirst,
     Wrong::LengthsCutTo16Bits,
+    Wrong::ThousandDoorsAreWide,
+    Wrong::DoorsCountedBetweenTheEnds,
+    Wrong::RankTwoHundredIsLow,
+    Wrong::WideBeforeTheBox,
+    Wrong::WalksBeforeWide,
+    Wrong::WideRecordsTaken,
+    Wrong::OnlyTheFilesDoorsCount,
+    Wrong::ListLeavesWideCellsOut,
+    Wrong::WriteLeavesWideCellsOut,
+    Wrong::MatchLeavesWideCellsOut,
 ];

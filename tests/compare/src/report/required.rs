@@ -1,16 +1,25 @@
-//! The refusals that a run must have seen: each fault of each call by document 01's order line, each cause of 9 in each walk, each
-//! cause of 11, 12 and 13 in each block that can have it.
+//! The refusals that a run must have seen: each fault of each call by the documents' order line, 16 together with each other fault of
+//! grant, each cause of 9 in each walk, each cause of 11, 12 and 13 in each block that can have it.
 
 use std::collections::BTreeMap;
 
 const BY_CALL: [(&str, &[u8]); 7] = [
     ("start", &[1]),
-    ("grant", &[1, 3, 4, 2, 5, 6]),
+    ("grant", &[1, 3, 4, 2, 16, 5, 6]),
     ("revoke", &[1, 3, 7]),
     ("list", &[1, 2, 8]),
     ("decide", &[1]),
     ("count", &[1]),
     ("write", &[1, 2, 14]),
+];
+const WITH_SIXTEEN: [&str; 7] = [
+    "grant 1 before 16",
+    "grant 3 before 16",
+    "grant 4 before 16",
+    "grant 2 before 16",
+    "grant 16 before 9",
+    "grant 16 before 5",
+    "grant 16 before 6",
 ];
 const ON_SCRAMBLED: [&str; 5] = ["grant 5", "grant 6", "revoke 7", "list 8", "write 14"];
 const SEARCHING: [&str; 7] = ["grant", "revoke", "list", "decide", "count", "write", "match"];
@@ -18,13 +27,14 @@ const OF_NINE: [&str; 3] = ["a link above C", "a cell below level 112", "more th
 const OTHER_WALKS: [&str; 3] =
     ["grant 9 way down: a cell below level 112", "grant 9 free head: a link above C", "grant 9 free cell's left: a link above C"];
 const RECORD_BLOCKS: [&str; 3] = ["the first block of records", "a middle block", "the last block"];
-const OF_RECORDS: [&str; 7] = [
+const OF_RECORDS: [&str; 8] = [
     "number 0",
     "number not above the last",
     "kind",
     "staff from above to",
     "door from above to",
     "quarter from above to",
+    "rank too low for its doors",
     "doors not touching",
 ];
 
@@ -48,7 +58,7 @@ fn of_pools() -> Vec<String> {
     let scrambled = ON_SCRAMBLED.iter().map(|refusal| format!("{refusal} on a scrambled pool"));
     let searches = SEARCHING.iter().flat_map(|call| OF_NINE.iter().map(move |cause| format!("{call} 9 search: {cause}")));
     let removals = OF_NINE.iter().map(|cause| format!("revoke 9 removal: {cause}"));
-    let others = OTHER_WALKS.iter().map(|refusal| refusal.to_string());
+    let others = OTHER_WALKS.iter().chain(&WITH_SIXTEEN).map(|refusal| refusal.to_string());
     by_call.chain(scrambled).chain(searches).chain(removals).chain(others).collect()
 }
 

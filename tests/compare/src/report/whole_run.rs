@@ -25,7 +25,7 @@ pub struct Counts {
 }
 
 impl Counts {
-    /// How many of document 01's faults were seen.
+    /// How many of the documents' faults were seen.
     pub fn faults(&self) -> usize {
         self.tally.reached.keys().filter_map(|refusal| refusal.split_whitespace().nth(1)).collect::<BTreeSet<_>>().len()
     }

@@ -24,12 +24,26 @@ returns-3 c =
     let kind = told .before in
     rw (ne-eqb _ _ (kind .before .if1 .left), le-ltb _ _ (kind .if2 .left), sym (told .is-reversed .ensures) ∙ c .if3 .taken)
 
+is-rank-too-low-requires : tie.Need-is-rank-too-low-requires
+is-rank-too-low-requires c κs = search needs
+
 returns-4 : tie.Need-returns-4
 unfolding firstWrong
 returns-4 c =
     let told = c .before in
-    let kind = told .before in
-    rw (ne-eqb _ _ (kind .before .if1 .left), le-ltb _ _ (kind .if2 .left), sym (told .is-reversed .ensures) ∙ c .if3 .left)
+    let box = told .before in
+    let kind = box .before .before in
+    rw (ne-eqb _ _ (kind .before .if1 .left), le-ltb _ _ (kind .if2 .left), sym (box .before .is-reversed .ensures) ∙ box .if3 .left)
+    (rw (sym (told .is-rank-too-low .ensures) ∙ c .if4 .taken))
+
+returns-5 : tie.Need-returns-5
+unfolding firstWrong
+returns-5 c =
+    let told = c .before in
+    let box = told .before in
+    let kind = box .before .before in
+    rw (ne-eqb _ _ (kind .before .if1 .left), le-ltb _ _ (kind .if2 .left), sym (box .before .is-reversed .ensures) ∙ box .if3 .left)
+    (rw (sym (told .is-rank-too-low .ensures) ∙ c .if4 .left))
 
 pub check-request-spec : {M : Type 1} → statement M
-check-request-spec = tie.close (tie.spec returns returns-2 is-reversed-requires returns-3 returns-4)
+check-request-spec = tie.close (tie.spec returns returns-2 is-reversed-requires returns-3 is-rank-too-low-requires returns-4 returns-5)
