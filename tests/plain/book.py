@@ -1,4 +1,5 @@
-"""Document 01's plain book, with document 02's cards that have landed: the live grants in a plain list, every question a scan of it. It shares nothing with the product."""
+"""The plain book of document 01, with the cards of document 02 that have landed: the live grants in a plain list, every question a scan
+of it. It shares nothing with the product."""
 
 CAPACITY = 2048
 

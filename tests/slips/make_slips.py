@@ -3,7 +3,8 @@
     make_slips.py SEED COUNT > slips      with tests/plain in PYTHONPATH
 
 Equal boxes, single points, ends at 0, 32767, 32768 and 65535; numbers that are live already, revokes of live and of dead numbers; the
-refusals 2 to 7 and 16, alone and together; 1,000 doors and 1,001, rank 199 and 200; lines of another form of many kinds. From 2600 slips on the book is filled once and listed whole, so that 6 comes too.
+refusals 2 to 7 and 16, alone and together; 1,000 doors and 1,001, ranks 199 and 200; lines of another form of many kinds. From 2600
+slips on the book is filled once and listed whole, so that 6 comes too.
 """
 import sys
 

@@ -1,5 +1,5 @@
 -- When the words of a pool stand for a plain book.
---   Carried w k g          the cell k carries g, which has values that fit, a number above 0 and a box that is not reversed
+--   Carried w k g          the cell k carries g, which has values that fit and no fault of a request
 --   Represents w b         the links hold together (adt/proofs/Linked), each cell of the tree carries such a grant, no two of one number,
 --                          and these grants, sorted, are the live ones
 --   represents-pool, represents-capacity     no fault 1; C is the book's

@@ -2,7 +2,7 @@
 --   senior-grants
 -- Assumes nothing.
 use Prim.Native.Nat.{ℕ, _+_}
-use mathlib.Core.Logic.{_↔_, _≢_}
+use mathlib.Core.Logic.{_↔_}
 use mathlib.Core.Path.{_≡_, refl, sym, ap, subst, _∙_}
 use mathlib.Core.Bool.{Bool, true, false, true≢false}
 use mathlib.Core.List.{List, [], _∷_, _++_, List·Memᴰ}
@@ -13,7 +13,6 @@ use lib.Seq.{take-at}
 use borrow.Author.Tests.{eqb-false, ltb-false, ne-eqb, le-ltb}
 use Rattle.lists.specs.Overwrite.{overwrite}
 use Rattle.model.specs.declared.Grant.{Grant}
-use Rattle.model.specs.declared.Fault.{Fault}
 use Rattle.model.specs.declared.Fault.the-variants.{AlreadyLive, Full, RankTooLow}
 use Rattle.model.specs.Interval.{Interval}
 use Rattle.model.specs.Box.{doorsOf}
@@ -64,14 +63,11 @@ writes-same w doors f k first second =
     firstValue (accepted values) = getD values 0 0
     firstValue (refused number values) = 0
 
--- the other faults of grant's line are not 16
-other-fault : {f : Fault} → f ≡ RankTooLow → faultNumber f ≢ 16 → ⊥
-other-fault same other = other (ap faultNumber same)
-
 module _ (b : Book) (r : Request) where
   abbrev causes : List Cause
   causes = requestCauses r ++ (AlreadyLive if isLive b (r .number) ∷ Full if eqb (length (b .live)) (b .capacity) ∷ [])
 
+  -- 16 is first exactly where it alone is wrong in the arguments: the other faults of the line have other numbers
   first-too-low : FirstOf causes RankTooLow ↔ (OtherwiseRight r × (Senior (r .rank) (r .bounds) → ⊥))
   first-too-low = (there, back)
     where
@@ -80,12 +76,12 @@ module _ (b : Book) (r : Request) where
         record { number = (let some = eqb-false (r .number) 0 p in omega arith); kind = ltb-false 1 (r .kind) q; order = t },
         (λ s. true≢false (sym low ∙ senior-iff (r .rank) (doorsOf (r .bounds)) .1 s)),
       )
-      there (first-here p same) = absurd (other-fault same (λ e. omega (arith, e)))
-      there (first-later p (first-here q same)) = absurd (other-fault same (λ e. omega (arith, e)))
-      there (first-later p (first-later q (first-here t same))) = absurd (other-fault same (λ e. omega (arith, e)))
-      there (first-later p (first-later q (first-later t (first-later u (first-here v same))))) = absurd (other-fault same (λ e. omega (arith, e)))
+      there (first-here p same) = absurd (omega (arith, ap faultNumber same))
+      there (first-later p (first-here q same)) = absurd (omega (arith, ap faultNumber same))
+      there (first-later p (first-later q (first-here t same))) = absurd (omega (arith, ap faultNumber same))
+      there (first-later p (first-later q (first-later t (first-later u (first-here v same))))) = absurd (omega (arith, ap faultNumber same))
       there (first-later p (first-later q (first-later t (first-later u (first-later v (first-here x same)))))) =
-          absurd (other-fault same (λ e. omega (arith, e)))
+          absurd (omega (arith, ap faultNumber same))
 
       low : (t : Bool) → rankTooLow (r .rank) (doorsOf (r .bounds)) ≡ t → (Senior (r .rank) (r .bounds) → ⊥)
           → rankTooLow (r .rank) (doorsOf (r .bounds)) ≡ true
@@ -104,7 +100,8 @@ senior-grants =
       live = λ c w gs made g m. live-senior (made-represents made) g m;
       written = λ c w gs made doors f range writes g m.
           let h = made-represents made in
-          set-senior (touching-set h doors range) g (subst (λ (k : List ℕ). List·Memᴰ g (grantsIn k)) (writes-same w doors f _ writes (files-written h doors range)) m);
+          let same = writes-same w doors f _ writes (files-written h doors range) in
+          set-senior (touching-set h doors range) g (subst (λ (k : List ℕ). List·Memᴰ g (grantsIn k)) same m);
       accepted = λ f below taken g m.
           let o = accepted-files f below .0 taken in
           set-senior (o .2) g (subst (λ (k : List ℕ). List·Memᴰ g (grantsIn k)) (o .3) m);

@@ -1,8 +1,9 @@
 -- Wide grants need seniority (document 02, card 3), as a claim. It says the rule by a grant's two door ends; the test that the calls make counts
 -- the doors (model/specs/Seniority), and a law joins them.
---   Senior g          rank 200 or above, or its door ends less than 1,000 apart
---   SeniorGrants      no index that calls made has another live grant, no file that write makes of one or that is accepted holds another, and
---                     the plain book refuses just the others with 16
+--   Senior rank b       rank 200 or above, or the door ends of the box b less than 1,000 apart
+--   OtherwiseRight r    the request r has none of the faults that are tested before 16
+--   SeniorGrants        no index that calls made has a live grant that isn't senior, no file that write makes of one and none that is accepted
+--                       holds such a grant, and the plain book refuses just these with 16
 -- Assumes nothing: these are definitions.
 use Prim.Native.Nat.{ℕ, _+_, _≤_, _<_}
 use mathlib.Core.Logic.{_↔_, _⊎_}
@@ -27,7 +28,7 @@ use Rattle.claims.specs.KeepsGrants.{Writes}
 abbrev pub Senior : ℕ → Box → Type 0
 Senior rank b = (seniorRank ≤ rank) ⊎ (b .«door_to» < b .«door_from» + maxJuniorDoors)
 
--- what else a request is refused for before 16: number 0, a kind above 1, a from above its to
+-- neither number 0 nor a kind above 1 nor a from above its to
 pub record OtherwiseRight (r : Request) : Type 0 where
   pub number : 1 ≤ r .number
   pub kind : r .kind ≤ 1

@@ -10,9 +10,18 @@ use grants_file::defects::outcome_of;
 use model::Outcome;
 use model::faults::fault_number;
 
+// What is wrong in a block that may have come to harm on its way.
 fn say_block(out: Stream, block: usize, reason: &[u8]) -> Stream {
     let numbered = put_number(put(out, b"block "), block);
-    put(numbered, reason)
+    put(put(numbered, reason), b"; ask for the file again\n")
+}
+
+fn say_mark(out: Stream, block: usize) -> Stream {
+    let numbered = put_number(put(out, b"block "), block);
+    put(
+        numbered,
+        b" doesn't begin with LGF1, so this is no grants file; ask for the right one\n",
+    )
 }
 
 // Record `place` of a block, with its grant's number.
@@ -81,34 +90,18 @@ fn say_cause(out: Stream, defect: Defect) -> Stream {
             out,
             b"the file is not 1 to 68 whole blocks of 512 bytes; ask for it again\n",
         ),
-        Defect::Checksum { block } => say_block(
-            out,
-            block,
-            b" is damaged, its check is wrong; ask for the file again\n",
-        ),
-        Defect::Mark { block } => say_block(
-            out,
-            block,
-            b" doesn't begin with LGF1, so this is no grants file; ask for the right one\n",
-        ),
-        Defect::BlockNumber { block } => say_block(
-            out,
-            block,
-            b" carries another block's number; ask for the file again\n",
-        ),
+        Defect::Checksum { block } => say_block(out, block, b" is damaged, its check is wrong"),
+        Defect::Mark { block } => say_mark(out, block),
+        Defect::BlockNumber { block } => say_block(out, block, b" carries another block's number"),
         Defect::TooManyGrants { total } => say_too_many(out, total),
         Defect::BlockCount { total, blocks } => say_block_count(out, total, blocks),
         Defect::RecordCount { block } => say_block(
             out,
             block,
-            b" counts more or fewer records than it should hold; ask for the file again\n",
+            b" counts more or fewer records than it should hold",
         ),
         Defect::DoorOrder { from, to } => say_door_order(out, from, to),
-        Defect::Padding { block } => say_block(
-            out,
-            block,
-            b" isn't zero where it should be empty; ask for the file again\n",
-        ),
+        Defect::Padding { block } => say_block(out, block, b" isn't zero where it should be empty"),
         Defect::Record {
             block,
             place,

@@ -1,7 +1,8 @@
 -- Laws of wide grants (specs/Seniority), by the ends of their doors.
---   wide-ends      a range has more than the junior doors exactly if its ends lie that far apart
---   senior-iff     a grant may have its doors exactly if its rank is the senior one or above, or their ends lie less far apart
---   request-senior so it is of a request without faults
+--   wide-ends            a range has more than the junior doors exactly if its ends lie that far apart
+--   Allowed rank d       the rank is the senior one or above, or the ends lie less far apart
+--   senior-iff           a rank isn't too low for doors exactly if they are allowed to it
+--   request-senior       a request without faults is allowed its doors
 -- Assumes nothing.
 use Prim.Native.Nat.{ℕ, suc, _+_, _-_, _≤_, _<_}
 use mathlib.Core.Logic.{_↔_, _⊎_, inl, inr}
@@ -24,11 +25,10 @@ wide-ends from to = go (leb (from + maxJuniorDoors) to) refl
     go true e = let far = leb-true (from + maxJuniorDoors) to e in sym (lt-ltb maxJuniorDoors (suc to - from) (omega arith))
     go false e = let near = leb-false (from + maxJuniorDoors) to e in sym (le-ltb maxJuniorDoors (suc to - from) (omega arith))
 
--- what the rule asks, by the ends
-abbrev Allowed : ℕ → Interval → Type 0
+abbrev pub Allowed : ℕ → Interval → Type 0
 Allowed rank d = (seniorRank ≤ rank) ⊎ (d .to < d .from + maxJuniorDoors)
 
-pub senior-iff : (rank : ℕ) (d : Interval) → (rankTooLow rank d ≡ false) ↔ ((seniorRank ≤ rank) ⊎ (d .to < d .from + maxJuniorDoors))
+pub senior-iff : (rank : ℕ) (d : Interval) → (rankTooLow rank d ≡ false) ↔ Allowed rank d
 senior-iff rank d = (λ e. allowed (ltb rank seniorRank) refl e, right)
   where
     allowed : (junior : Bool) → ltb rank seniorRank ≡ junior → (junior && ltb maxJuniorDoors (suc (d .to) - d .from)) ≡ false → Allowed rank d
@@ -43,6 +43,5 @@ senior-iff rank d = (λ e. allowed (ltb rank seniorRank) refl e, right)
     right (inl high) = rw (le-ltb rank seniorRank high)
     right (inr near) = rw (le-ltb maxJuniorDoors (suc (d .to) - d .from) (omega (arith, near))) (neither (ltb rank seniorRank))
 
-pub request-senior : (r : Request) → NoneOf (requestCauses r)
-    → (seniorRank ≤ r .rank) ⊎ (r .bounds .«door_to» < r .bounds .«door_from» + maxJuniorDoors)
+pub request-senior : (r : Request) → NoneOf (requestCauses r) → Allowed (r .rank) (doorsOf (r .bounds))
 request-senior r (none-more p (none-more q (none-more s (none-more t rest)))) = senior-iff (r .rank) (doorsOf (r .bounds)) .0 t

@@ -1,4 +1,5 @@
-// What is wrong in the values of a grant that is asked for (document 01, "Faults": grant's 3, 4 and 2; document 02's 16). A record of a file is asked the same.
+// What is wrong in the values of a grant that is asked for (document 01, "Faults": grant's 3, 4 and 2; document 02's 16). A record of a file is
+// asked the same.
 ghost use mathlib.Core.Path.{_≡_};
 ghost use Rattle.model.specs.Arguments.{requestOrder, faultOf, firstWrong};
 ghost use Rattle.model.specs.Call.{request};
