@@ -71,10 +71,10 @@ pub record-cases : (defectIn (fileOf doors (right 5 ∷ right 6 ∷ [])) ≡ Sou
     × (defectIn (fileOf doors (map right (countFrom 1 31) ++ right 31 ∷ [])) ≡ Record 2 1 31 NumberOrder)
     × (defectIn (headerBlock 1 doors ++ ofKind2) ≡ Record 1 1 7 Kind)
     × (defectIn (fileOf doors (right 5 ∷ given 6 (record { from = 2; to = 1 }) doors ∷ [])) ≡ Record 1 2 6 Reversed)
-    -- at rank 0: 1,001 doors, one of them the file's; 1,001, none of them the file's; 1,000
-    × (defectIn (fileOf doors (right 5 ∷ given 6 (record { from = 1; to = 2 }) (record { from = 9; to = 1009 }) ∷ [])) ≡ Record 1 2 6 RankTooLow)
+    -- at rank 0: 1,001 doors, two of them the file's; 1,001, none of them the file's; 1,000
+    × (defectIn (fileOf doors (right 5 ∷ given 6 (record { from = 1; to = 2 }) (record { from = 8; to = 1008 }) ∷ [])) ≡ Record 1 2 6 RankTooLow)
     × (defectIn (fileOf doors (given 6 (record { from = 1; to = 2 }) (record { from = 10; to = 1010 }) ∷ [])) ≡ Record 1 1 6 RankTooLow)
-    × (defectIn (fileOf doors (given 6 (record { from = 1; to = 2 }) (record { from = 9; to = 1008 }) ∷ [])) ≡ Sound)
+    × (defectIn (fileOf doors (given 6 (record { from = 1; to = 2 }) (record { from = 8; to = 1007 }) ∷ [])) ≡ Sound)
     × (defectIn (fileOf doors (given 6 (record { from = 1; to = 2 }) (record { from = 10; to = 12 }) ∷ [])) ≡ Record 1 1 6 Doors)
 unfolding fileDefects contentDefects recordsDefects firstDefect wrongBlockCount wrongChecksum wrongPadding lastBefore recordsOf sealed
     headerBlock recordBlock fileOf encodeRecord decodeRecord reversedBox flatMap countFrom every sameNumbers base256 checksum
