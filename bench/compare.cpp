@@ -79,6 +79,19 @@ void compare_refusals(Engine &engine, const Load &load)
         differ(engine, place, "a number revoked that is not live");
 }
 
+// The damage is in one block.
+void compare_blocks(Engine &engine, const Place &place, const Bytes &file, const Bytes &damaged)
+{
+    const size_t blocks = file.size() / BLOCK_BYTES, wrong = file.size() / 2 / BLOCK_BYTES;
+    for (size_t block = 0; block <= blocks; block++) {
+        const unsigned expected = block == blocks ? 10 : 0;
+        if (engine.files()->judge(file.data(), file.size(), block) != expected)
+            differ(engine, place, "block " + std::to_string(block));
+        if (engine.files()->judge(damaged.data(), damaged.size(), block) != (block == wrong ? 12 : expected))
+            differ(engine, place, "block " + std::to_string(block) + " of a damaged file");
+    }
+}
+
 // Into an empty engine, so that a load which does nothing is noticed afterwards.
 void compare_load(Engine &engine, const Load &load, const Bytes &file)
 {
@@ -88,6 +101,7 @@ void compare_load(Engine &engine, const Load &load, const Bytes &file)
     damaged[file.size() / 2] ^= 1;
     if (engine.files()->load(damaged.data(), damaged.size()) != 12)
         differ(engine, place, "a damaged file loaded");
+    compare_blocks(engine, place, file, damaged);
     if (engine.files()->load(file.data(), file.size()) != 0)
         differ(engine, place, "load");
 }

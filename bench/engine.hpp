@@ -14,6 +14,8 @@ public:
     virtual size_t write(Span doors, uint8_t *bytes) = 0;
     // Replaces all grants by the file's.
     virtual unsigned load(const uint8_t *file, size_t length) = 0;
+    // The verdict on one block of a file.
+    virtual unsigned judge(const uint8_t *file, size_t length, size_t block) = 0;
 };
 
 class Engine {
@@ -33,8 +35,8 @@ public:
 
 using Engines = std::vector<std::unique_ptr<Engine>>;
 
-// Those that are always there, by their places; behind them, those whose headers were found.
-enum { LIBRARY, SCAN, SCAN_SIMD, PLAIN_TREE };
+// Those that are always there, by their places, and the archive that the library is held against; behind them, those whose headers were found.
+enum { LIBRARY, SCAN, SCAN_SIMD, PLAIN_TREE, BEFORE_LIBRARY };
 Engines make_engines();
 
 std::unique_ptr<Engine> make_library();

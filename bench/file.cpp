@@ -4,7 +4,7 @@
 
 namespace {
 
-constexpr size_t RECORD_BYTES = 16, RECORDS = 31, RECORDS_AT = 8, CHECK_AT = 510;
+constexpr size_t RECORD_BYTES = 16, RECORDS = 31, RECORDS_AT = 8, HEAD_END = 12;
 constexpr uint8_t MARK[4] = {0x4C, 0x47, 0x46, 0x31};
 
 void put(uint8_t *bytes, size_t value)
@@ -18,14 +18,6 @@ uint16_t get(const uint8_t *bytes)
     return static_cast<uint16_t>(bytes[0] << 8 | bytes[1]);
 }
 
-uint32_t check_of(const uint8_t *block)
-{
-    uint32_t check = 1;
-    for (size_t i = 0; i < CHECK_AT; i++)
-        check = (check * 256 + block[i]) % 65521;
-    return check;
-}
-
 void open_block(uint8_t *block, size_t number, size_t count)
 {
     memset(block, 0, BLOCK_BYTES);
@@ -34,9 +26,9 @@ void open_block(uint8_t *block, size_t number, size_t count)
     put(block + 6, count);
 }
 
-void close_block(uint8_t *block)
+void close_block(uint8_t *block, Check check)
 {
-    put(block + CHECK_AT, check_of(block));
+    put(block + CHECK_AT, check(block));
 }
 
 void put_record(uint8_t *record, const Grant &grant)
@@ -70,21 +62,26 @@ bool filled(const uint8_t *block, size_t from)
     return std::all_of(block + from, block + CHECK_AT, [](uint8_t byte) { return byte == 0; });
 }
 
-// Faults 12 and 11 of what every block has.
-unsigned judge_frame(const uint8_t *block, size_t number)
+bool wrong_length(size_t length)
 {
-    if (check_of(block) != get(block + CHECK_AT))
+    return length == 0 || length % BLOCK_BYTES != 0 || length > MOST_FILE_BYTES;
+}
+
+// Faults 12 and 11 of what every block has.
+unsigned judge_frame(const uint8_t *block, size_t number, Check check)
+{
+    if (check(block) != get(block + CHECK_AT))
         return 12;
     return memcmp(block, MARK, sizeof MARK) != 0 || get(block + 4) != number ? 11 : 0;
 }
 
-unsigned judge_head(const uint8_t *block, size_t blocks)
+unsigned judge_head(const uint8_t *block, size_t blocks, Check check)
 {
-    if (unsigned fault = judge_frame(block, 0))
+    if (unsigned fault = judge_frame(block, 0, check))
         return fault;
     size_t count = get(block + 6);
     Span doors = get_span(block + 8);
-    return count > MOST_GRANTS || blocks != blocks_for(count) || doors.from > doors.to || !filled(block, 12) ? 11 : 0;
+    return count > MOST_GRANTS || blocks != blocks_for(count) || doors.from > doors.to || !filled(block, HEAD_END) ? 11 : 0;
 }
 
 bool sound(const Grant &grant, uint16_t last, Span doors)
@@ -95,9 +92,9 @@ bool sound(const Grant &grant, uint16_t last, Span doors)
 }
 
 // A block of records; `last` is the number before its first and becomes its last.
-unsigned judge_records(const uint8_t *block, size_t number, size_t count, Span doors, uint16_t &last)
+unsigned judge_records(const uint8_t *block, size_t number, size_t count, Span doors, uint16_t &last, Check check)
 {
-    if (unsigned fault = judge_frame(block, number))
+    if (unsigned fault = judge_frame(block, number, check))
         return fault;
     if (get(block + 6) != count || !filled(block, RECORDS_AT + RECORD_BYTES * count))
         return 11;
@@ -112,36 +109,51 @@ unsigned judge_records(const uint8_t *block, size_t number, size_t count, Span d
 
 } // namespace
 
-size_t write_file(Span doors, const Grant *grants, size_t count, uint8_t *bytes)
+size_t write_file(Span doors, const Grant *grants, size_t count, uint8_t *bytes, Check check)
 {
     open_block(bytes, 0, count);
     put(bytes + 8, doors.from);
     put(bytes + 10, doors.to);
-    close_block(bytes);
+    close_block(bytes, check);
     uint8_t *block = bytes + BLOCK_BYTES;
     for (size_t first = 0; first < count; first += RECORDS, block += BLOCK_BYTES) {
         size_t here = std::min(RECORDS, count - first);
         open_block(block, 1 + first / RECORDS, here);
         for (size_t i = 0; i < here; i++)
             put_record(block + RECORDS_AT + RECORD_BYTES * i, grants[first + i]);
-        close_block(block);
+        close_block(block, check);
     }
     return BLOCK_BYTES * blocks_for(count);
 }
 
-unsigned judge_file(const uint8_t *file, size_t length)
+unsigned judge_file(const uint8_t *file, size_t length, Check check)
 {
-    if (length == 0 || length % BLOCK_BYTES != 0 || length > MOST_FILE_BYTES)
+    if (wrong_length(length))
         return 10;
-    if (unsigned fault = judge_head(file, length / BLOCK_BYTES))
+    if (unsigned fault = judge_head(file, length / BLOCK_BYTES, check))
         return fault;
     uint16_t last = 0;
     for (size_t first = 0, number = 1; first < count_of(file); first += RECORDS, number++) {
         size_t here = std::min(RECORDS, count_of(file) - first);
-        if (unsigned fault = judge_records(file + BLOCK_BYTES * number, number, here, get_span(file + 8), last))
+        if (unsigned fault = judge_records(file + BLOCK_BYTES * number, number, here, get_span(file + 8), last, check))
             return fault;
     }
     return 0;
+}
+
+unsigned judge_block(const uint8_t *file, size_t length, size_t number, Check check)
+{
+    if (wrong_length(length) || number >= length / BLOCK_BYTES)
+        return 10;
+    const uint8_t *block = file + BLOCK_BYTES * number;
+    if (unsigned fault = judge_frame(block, number, check))
+        return fault;
+    if (number == 0)
+        return filled(block, HEAD_END) ? 0 : 11;
+    size_t count = get(block + 6);
+    bool last = number + 1 == length / BLOCK_BYTES;
+    bool counted = last ? count >= 1 && count <= RECORDS : count == RECORDS;
+    return counted && filled(block, RECORDS_AT + RECORD_BYTES * count) ? 0 : 11;
 }
 
 size_t count_of(const uint8_t *file)

@@ -77,6 +77,9 @@ void run_size(Engines &engines, size_t size, uint64_t seed, const Effort &effort
     printf("\n### %s grants\n", grouped(size).c_str());
     print_table(engines, rows, PLAIN_TREE);
     print_table(engines, rows, SCAN);
+#ifdef WITH_BEFORE
+    print_table(engines, rows, BEFORE_LIBRARY);
+#endif
     fflush(stdout);
 }
 

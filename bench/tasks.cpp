@@ -44,7 +44,7 @@ std::vector<uint8_t> file_of_all(std::vector<Grant> grants)
 {
     std::sort(grants.begin(), grants.end(), [](const Grant &a, const Grant &b) { return a.number < b.number; });
     std::vector<uint8_t> file(MOST_FILE_BYTES);
-    file.resize(write_file(EVERY, grants.data(), grants.size(), file.data()));
+    file.resize(write_file(EVERY, grants.data(), grants.size(), file.data(), check_by_byte));
     return file;
 }
 
@@ -52,6 +52,15 @@ Task load_task(const Load &load)
 {
     auto load_all = [file = file_of_all(load.grants)](Engine &engine, size_t) { engine.files()->load(file.data(), file.size()); };
     return {load.name, "load all", load_all, 1, false, true};
+}
+
+// The blocks of records, one after the other.
+Task judge_task(const Load &load)
+{
+    std::vector<uint8_t> file = file_of_all(load.grants);
+    const size_t blocks = file.size() / BLOCK_BYTES - 1;
+    auto judge = [file = std::move(file)](Engine &engine, size_t place) { engine.files()->judge(file.data(), file.size(), 1 + place); };
+    return {load.name, "judge a block", judge, blocks, false, true};
 }
 
 } // namespace
@@ -65,6 +74,7 @@ std::vector<Task> make_tasks(const Load &load)
         tasks.push_back(write_task(load, "write a bank", load.banks));
         tasks.push_back(write_task(load, "write all", {EVERY}));
         tasks.push_back(load_task(load));
+        tasks.push_back(judge_task(load));
     }
     return tasks;
 }

@@ -7,6 +7,7 @@
 #define lg_decide before_lg_decide
 #define lg_write before_lg_write
 #define lg_load before_lg_load
+#define lg_block before_lg_block
 #define NAME "before"
 #define MAKE make_before
 #else
@@ -71,6 +72,8 @@ public:
     {
         return LG_FAULT(lg_load(pool.data(), pool.size(), file, length));
     }
+
+    unsigned judge(const uint8_t *file, size_t length, size_t block) override { return LG_FAULT(lg_block(file, length, block)); }
 
 private:
     // No load of the benchmark gives cause to refuse these calls.

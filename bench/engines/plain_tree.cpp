@@ -107,12 +107,12 @@ public:
         size_t count = 0;
         search(range_of({EVERY, doors, EVERY}), [&](const Spot &spot) { touching[count++] = grant_in(tree.cell(spot.cell)); });
         std::sort(touching, touching + count, [](const Grant &a, const Grant &b) { return a.number < b.number; });
-        return write_file(doors, touching, count, bytes);
+        return write_file(doors, touching, count, bytes, check_by_byte);
     }
 
     unsigned load(const uint8_t *file, size_t length) override
     {
-        if (unsigned fault = judge_file(file, length))
+        if (unsigned fault = judge_file(file, length, check_by_byte))
             return fault;
         if (count_of(file) > tree.capacity())
             return 6;
@@ -126,6 +126,8 @@ public:
         }
         return 0;
     }
+
+    unsigned judge(const uint8_t *file, size_t length, size_t block) override { return judge_block(file, length, block, check_by_byte); }
 
 private:
     // Whether the number is live, and where its cell is. The search goes on to its end. False: fault 9.

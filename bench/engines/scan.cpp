@@ -68,12 +68,12 @@ public:
         for (const Grant &grant : grants)
             if (overlap(grant.box.doors, doors))
                 touching[count++] = grant;
-        return write_file(doors, touching, count, bytes);
+        return write_file(doors, touching, count, bytes, check_by_byte);
     }
 
     unsigned load(const uint8_t *file, size_t length) override
     {
-        if (unsigned fault = judge_file(file, length))
+        if (unsigned fault = judge_file(file, length, check_by_byte))
             return fault;
         if (count_of(file) > most)
             return 6;
@@ -82,6 +82,8 @@ public:
             grants.push_back(record_of(file, i));
         return 0;
     }
+
+    unsigned judge(const uint8_t *file, size_t length, size_t block) override { return judge_block(file, length, block, check_by_byte); }
 
 private:
     using Place = std::vector<Grant>::iterator;

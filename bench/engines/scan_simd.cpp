@@ -73,12 +73,12 @@ public:
         size_t found = 0;
         mark({EVERY, doors, EVERY});
         for_each_mark([&](size_t i) { touching[found++] = get(i); });
-        return write_file(doors, touching, found, bytes);
+        return write_file(doors, touching, found, bytes, check_by_table);
     }
 
     unsigned load(const uint8_t *file, size_t length) override
     {
-        if (unsigned fault = judge_file(file, length))
+        if (unsigned fault = judge_file(file, length, check_by_table))
             return fault;
         if (count_of(file) > most)
             return 6;
@@ -87,6 +87,8 @@ public:
             put(i, record_of(file, i));
         return 0;
     }
+
+    unsigned judge(const uint8_t *file, size_t length, size_t block) override { return judge_block(file, length, block, check_by_table); }
 
 private:
     size_t place_of(uint16_t number) const

@@ -1,4 +1,5 @@
 -- Laws of specs/Checksum.
+--   add-same, mul-mod      sums of equal remainders; a remainder taken of a factor
 --   base256-append         the bytes of two lists in a row
 --   base256-mod            a remainder taken before the bytes makes no difference
 --   checksum-append        the check goes on from the check of the bytes before
@@ -8,12 +9,21 @@
 use Prim.Native.Nat.{ℕ, suc, _+_, _*_, _/_, _%_, _<_}
 use mathlib.Core.Path.{_≡_, refl, sym, ap, _∙_}
 use mathlib.Core.List.{List, [], _∷_, _++_}
-use native.Mathlib.Nat.{mod-lt, mul-add-mod-self-left}
+use native.Mathlib.Nat.{mod-lt, add-mod, div-add-mod, mul-add-mod-self-left}
 use native.Mathlib.Omega.{arith}
 use lib.Dec.{lit<}
 use lib.ListN.{length, getD, take, drop, set}
 use lib.Seq.{split-at, set-split}
 use Rattle.checksum.specs.Checksum.{modulus, base256, checksum}
+
+pub add-same : (a b x y : ℕ) → a % modulus ≡ x % modulus → b % modulus ≡ y % modulus → (a + b) % modulus ≡ (x + y) % modulus
+add-same a b x y p q = rw (add-mod a b modulus, p, q) (sym (add-mod x y modulus))
+
+pub mul-mod : (a b : ℕ) → a * (b % modulus) % modulus ≡ a * b % modulus
+mul-mod a b =
+    let e : a * b ≡ modulus * (a * (b / modulus)) + a * (b % modulus) =
+    ap (λ (n : ℕ). a * n) (sym (div-add-mod b modulus)) ∙ omega arith in
+    sym (ap (λ (n : ℕ). n % modulus) e ∙ mul-add-mod-self-left modulus (a * (b / modulus)) (a * (b % modulus)))
 
 pub base256-append : (v : ℕ) (xs ys : List ℕ) → base256 v (xs ++ ys) ≡ base256 (base256 v xs) ys
 unfolding base256

@@ -1,3 +1,4 @@
--- Laws of the check, for the crates above.
+-- Laws of the check. The crates above use the first.
 pub mod ChecksumLaws
-pub mod SumLaws
+mod PowerTableLaws
+mod SumLaws

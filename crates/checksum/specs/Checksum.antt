@@ -1,5 +1,5 @@
 -- Document 01's "check" ("The grants file"): the byte 1 followed by the bytes, read as one base-256 number, modulo 65521.
--- Of byte strings of any length. How it is computed may change (card 5); what it is does not.
+-- Of byte strings of any length. How it is computed is another matter (PowerTable).
 -- Assumes nothing: these are definitions.
 use Prim.Native.Nat.{ℕ, _+_, _*_, _%_}
 use mathlib.Core.List.{List, [], _∷_}

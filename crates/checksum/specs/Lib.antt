@@ -1,2 +1,3 @@
--- The check of a block.
+-- The check of a block, and the table that it is computed by.
 pub mod Checksum
+pub mod PowerTable
