@@ -12,7 +12,7 @@
  *
  * Stack: no call allocates. A call needs at most LG_STACK_BYTES beside what its caller has on the stack, on any pool and any file;
  * measured on x86-64 with the archive that `rt staticlib c_api` makes (tests/stack): lg_list 28,900 bytes, lg_write and lg_match 25,600,
- * lg_grant, lg_revoke, lg_decide and lg_count 20,900, the others 400.
+ * lg_grant, lg_revoke, lg_decide and lg_count 20,900, the others 1,400.
  *
  * Every call returns one word:
  *
