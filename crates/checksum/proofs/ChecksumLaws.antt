@@ -1,7 +1,6 @@
 -- Laws of specs/Checksum.
 --   add-same, mul-mod      sums of equal remainders; a remainder taken of a factor
 --   base256-append         the bytes of two lists in a row
---   base256-mod            a remainder taken before the bytes makes no difference
 --   checksum-append        the check goes on from the check of the bytes before
 --   checksum-lt            it is below the modulus
 --   checksum-set-changes   another byte at one place gives another check (document 01: one byte changed is refused)
@@ -9,7 +8,7 @@
 use Prim.Native.Nat.{ℕ, suc, _+_, _*_, _/_, _%_, _<_}
 use mathlib.Core.Path.{_≡_, refl, sym, ap, _∙_}
 use mathlib.Core.List.{List, [], _∷_, _++_}
-use native.Mathlib.Nat.{mod-lt, add-mod, div-add-mod, mul-add-mod-self-left}
+use native.Mathlib.Nat.{mul-comm, mod-lt, mod-mod, add-mod, div-add-mod, mul-add-mod-self-left}
 use native.Mathlib.Omega.{arith}
 use lib.Dec.{lit<}
 use lib.ListN.{length, getD, take, drop, set}
@@ -33,15 +32,12 @@ base256-append v (x ∷ xs) ys = base256-append (v * 256 + x) xs ys
 -- a remainder before a digit
 mod-digit : (v b : ℕ) → (v % modulus * 256 + b) % modulus ≡ (v * 256 + b) % modulus
 mod-digit v b =
-    let e : v * 256 + b ≡ modulus * (256 * (v / modulus)) + (v % modulus * 256 + b) = omega arith in
-    sym (ap (λ (n : ℕ). n % modulus) e ∙ mul-add-mod-self-left modulus (256 * (v / modulus)) (v % modulus * 256 + b))
+    add-same (v % modulus * 256) b (v * 256) b (rw (mul-comm (v % modulus) 256, mul-comm v 256) (mul-mod 256 v)) refl
 
-mod-mod : (v : ℕ) → v % modulus % modulus ≡ v % modulus
-mod-mod v = omega arith
-
-pub base256-mod : (v : ℕ) (bs : List ℕ) → base256 (v % modulus) bs % modulus ≡ base256 v bs % modulus
+-- a remainder taken before the bytes makes no difference
+base256-mod : (v : ℕ) (bs : List ℕ) → base256 (v % modulus) bs % modulus ≡ base256 v bs % modulus
 unfolding base256
-base256-mod v [] = mod-mod v
+base256-mod v [] = mod-mod v modulus
 base256-mod v (b ∷ bs) =
     sym (base256-mod (v % modulus * 256 + b) bs) ∙ rw (mod-digit v b) (base256-mod (v * 256 + b) bs)
 

@@ -1,10 +1,11 @@
 // The check of a block (document 01, "The grants file"), of byte strings of any length: by the table of powers, a chunk of up to 510 bytes at
 // a time. A block is one chunk: its products are added, and one remainder is taken at the end.
 ghost use mathlib.Core.Path.{_≡_};
-ghost use Prim.Native.Nat.{_+_, _*_, _^_, _%_, _<_, _≤_};
+ghost use Prim.Native.Nat.{_+_, _*_, _^_, _%_, _<_, _≤_, min};
+ghost use lib.Dec.{T};
 ghost use lib.ListN.{length};
 ghost use Rattle.checksum.specs.Checksum.{modulus, base256, checksum};
-ghost use Rattle.checksum.specs.PowerTable.{entries, mostProduct, HoldsPowers, Summable, Shiftable};
+ghost use Rattle.checksum.specs.PowerTable.{entries, mostProduct, isTable, Summable, Shiftable};
 
 mod powers;
 
@@ -45,7 +46,7 @@ fn sum_of_products(bytes: &[u8], powers: &[u16; ENTRIES], behind: usize) -> u32
 
 // A power of 256, modulo 65521. Power 510 is 256 times the last entry.
 fn power(powers: &[u16; ENTRIES], exponent: usize) -> u64
-    requires { ⌜ HoldsPowers (now powers) × (exponent ≤ entries) ⌝ }
+    requires { ⌜ T (isTable (now powers)) × (exponent ≤ entries) ⌝ }
     ensures { λ r. ⌜ r ≡ 256 ^ exponent % modulus ⌝ }
 {
     if exponent < ENTRIES {
@@ -76,7 +77,7 @@ fn sum_of_chunk(bytes: &[u8], powers: &[u16; ENTRIES], before: u64) -> u64
 // Where a chunk ends: 510 bytes on, or with the bytes.
 fn end_of_chunk(at: usize, length: usize) -> usize
     requires { ⌜ at < length ⌝ }
-    ensures { λ r. ⌜ (at < r) × (r ≤ length) × (r ≤ at + entries) ⌝ }
+    ensures { λ r. ⌜ r ≡ min (at + entries) length ⌝ }
 {
     if ENTRIES < length - at {
         return at + ENTRIES;

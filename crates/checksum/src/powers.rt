@@ -1,4 +1,5 @@
-// The table of powers (document 01, last section): power i of 256 modulo 65521 is entry i. Its rule is `isTable` of specs/PowerTable.
+// The table of powers (document 02, card 5; document 01, "The shape each place takes"): entry i is power i of 256 modulo 65521. Its rule is
+// `isTable` (specs/PowerTable).
 pub const ENTRIES: usize = 510;
 
 pub const POWERS: [u16; ENTRIES] = [

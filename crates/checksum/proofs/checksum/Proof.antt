@@ -7,8 +7,8 @@ use lib.ListN.{length, take}
 use lib.Seq.{take-all}
 use borrow.Author.Needs.{needs}
 use Rattle.checksum.specs.Checksum.{modulus, base256, checksum}
+use Rattle.checksum.specs.PowerTable.{isGeometric, isTable}
 use Rattle.checksum.proofs.ChecksumLaws.{checksum-lt}
-use Rattle.checksum.proofs.PowerTableLaws.{table-powers}
 use Rattle.checksum.proofs.SumLaws.{chunk-short, chunk-turn}
 use Rattle.checksum.proofs.checksum.Statement.{statement}
 use Rattle.checksum.proofs.checksum.Tie as tie
@@ -36,11 +36,12 @@ part-sum-of-chunk-end : tie.Need-part-sum-of-chunk-end Inv-loop μ-loop
 part-sum-of-chunk-end c = search needs
 
 sum-of-chunk-requires : tie.Need-sum-of-chunk-requires Inv-loop μ-loop
+unfolding isGeometric isTable
 sum-of-chunk-requires c κs =
     let l = c .before .before .before .before .loop in
     let bytes = c .before .before .before .before .before .before .args .bytes .now in
     let end = c .before .before .end-of-chunk in
-    record { powers = table-powers _ tt; near = chunk-short bytes (l .at) (end .result) (end .ensures .2); reduced = l .inv .1 }
+    record { rule = tt; near = chunk-short bytes (l .at) (end .result) (omega (arith, end .ensures)); reduced = l .inv .1 }
 
 loop-less : tie.Need-loop-less Inv-loop μ-loop
 loop-less c = search needs
@@ -51,7 +52,7 @@ loop-again c =
     let bytes = c .before .before .before .before .before .before .before .args .bytes .now in
     let end = c .before .before .before .end-of-chunk in
     let turn = c .sum-of-chunk .ensures ∙ chunk-turn bytes (l .at) (end .result) (l .sum) (omega arith) (l .inv .2) in
-    (end .ensures .1, rw turn (checksum-lt (take (end .result) bytes)), turn)
+    (omega (arith, end .ensures), rw turn (checksum-lt (take (end .result) bytes)), turn)
 
 cast-result : tie.Need-cast-result Inv-loop μ-loop
 cast-result c = search needs

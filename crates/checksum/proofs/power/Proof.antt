@@ -2,7 +2,7 @@
 use mathlib.Core.Path.{_∙_}
 use native.Mathlib.Omega.{arith}
 use borrow.Author.Needs.{needs}
-use Rattle.checksum.proofs.PowerTableLaws.{entry-power, last-power}
+use Rattle.checksum.proofs.PowerTableLaws.{table-powers, last-power}
 use Rattle.checksum.proofs.power.Statement.{statement}
 use Rattle.checksum.proofs.power.Tie as tie
 
@@ -18,7 +18,7 @@ wide-requires c κs = search needs
 returns : tie.Need-returns
 returns c =
     let start = c .before .before .before in
-    c .wide .ensures .0 ∙ entry-power (start .args .powers .now) (start .args .exponent) (start .pre .0) (omega arith)
+    c .wide .ensures .0 ∙ table-powers (start .args .powers .now) (start .args .exponent) (start .pre .0) (omega arith)
 
 sub-wide : tie.Need-sub-wide
 sub-wide c = search needs

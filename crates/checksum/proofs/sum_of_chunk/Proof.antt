@@ -23,7 +23,7 @@ sum-of-products-requires c κs =
     let start = c .before .before in
     let bytes = start .args .bytes .now in
     let size = length-take-le (length bytes / 2) bytes (omega arith) in
-    record { powers = start .pre .powers; few = rw size (omega (arith, start .pre .near)); inside = rw size (omega (arith, start .pre .near)) }
+    record { rule = start .pre .rule; few = rw size (omega (arith, start .pre .near)); inside = rw size (omega (arith, start .pre .near)) }
 
 sub-sum-of-products-2 : tie.Need-sub-sum-of-products-2
 sub-sum-of-products-2 c = search needs

@@ -1,12 +1,12 @@
 -- `sum_of_products` meets its contract. The invariant: the sum is that of the bytes passed, with the others behind them. Assumes nothing.
 use Prim.Native.Nat.{_+_, _*_, _^_, _-_, _%_, _≤_}
-use mathlib.Core.Path.{_≡_, refl}
+use mathlib.Core.Path.{_≡_}
 use native.Mathlib.Omega.{arith}
 use lib.ListN.{length, take}
 use borrow.Author.Needs.{needs}
 use Rattle.checksum.specs.Checksum.{modulus, base256}
-use Rattle.checksum.specs.PowerTable.{mostProduct, HoldsPowers, Summable}
-use Rattle.checksum.proofs.PowerTableLaws.{entry-power, entry-lt}
+use Rattle.checksum.specs.PowerTable.{mostProduct}
+use Rattle.checksum.proofs.PowerTableLaws.{table-powers, entry-lt}
 use Rattle.checksum.proofs.SumLaws.{products-start, products-turn, products-end}
 use Rattle.checksum.proofs.sum_of_products.Statement.{statement}
 use Rattle.checksum.proofs.sum_of_products.Tie as tie
@@ -47,7 +47,7 @@ product-requires : tie.Need-product-requires Inv-loop μ-loop
 product-requires c κs =
     let l = c .before .before .before .loop in
     let start = c .before .before .before .before .before in
-    entry-lt (start .args .powers .now) (l .exponent - 1) (start .pre .powers) (omega (arith, start .pre .inside))
+    entry-lt (start .args .powers .now) (l .exponent - 1) (start .pre .rule) (omega (arith, start .pre .inside))
 
 add-sum : tie.Need-add-sum Inv-loop μ-loop
 add-sum c =
@@ -66,7 +66,7 @@ loop-again c =
     let start = c .before .before .before .before .before .before in
     let bytes = start .args .bytes .now in
     let powers = start .args .powers .now in
-    let is-power = entry-power powers (l .exponent - 1) (start .pre .powers) (omega (arith, start .pre .inside)) in (
+    let is-power = table-powers powers (l .exponent - 1) (start .pre .rule) (omega (arith, start .pre .inside)) in (
       omega arith,
       omega arith,
       omega (arith, c .product .ensures .1),
