@@ -6,11 +6,9 @@
 
 namespace {
 
-// An engine on its way through a task's cycle.
+// A work and how it fares; an empty one takes no part.
 struct Runner {
-    Engine &engine;
-    bool takes_part;
-    size_t place = 0;
+    const Work &work;
     size_t batch = 1;
     std::vector<double> times{};
 };
@@ -23,26 +21,18 @@ double processor_nanoseconds()
     return static_cast<double>(now.tv_sec) * 1e9 + static_cast<double>(now.tv_nsec);
 }
 
-void step(Runner &runner, const Task &task)
-{
-    task.operate(runner.engine, runner.place);
-    if (++runner.place == task.cycle)
-        runner.place = 0;
-}
-
 // Nanoseconds for one operation, over a batch.
-double take_turn(Runner &runner, const Task &task)
+double take_turn(const Runner &runner)
 {
     double before = processor_nanoseconds();
-    for (size_t i = 0; i < runner.batch; i++)
-        step(runner, task);
+    runner.work(runner.batch);
     return (processor_nanoseconds() - before) / static_cast<double>(runner.batch);
 }
 
-// Doubles the batch until it is long enough; this warms the engine up, too.
-void find_batch(Runner &runner, const Task &task, const Effort &effort)
+// Doubles the batch until it is long enough; this warms the runner up, too.
+void find_batch(Runner &runner, const Effort &effort)
 {
-    while (take_turn(runner, task) * static_cast<double>(runner.batch) < effort.turn_nanoseconds)
+    while (take_turn(runner) * static_cast<double>(runner.batch) < effort.turn_nanoseconds)
         runner.batch *= 2;
 }
 
@@ -53,26 +43,61 @@ double median(std::vector<double> values)
     return *middle;
 }
 
+// An engine on its way through a task's cycle.
+struct Walk {
+    Engine &engine;
+    size_t place = 0;
+};
+
+void step(Walk &walk, const Task &task)
+{
+    task.operate(walk.engine, walk.place);
+    if (++walk.place == task.cycle)
+        walk.place = 0;
+}
+
+Work work_of(Walk &walk, const Task &task)
+{
+    if (task.files && walk.engine.files() == nullptr)
+        return {};
+    return [&walk, &task](size_t count) {
+        for (size_t i = 0; i < count; i++)
+            step(walk, task);
+    };
+}
+
 } // namespace
+
+std::vector<double> time_in_turns(const std::vector<Work> &works, const Effort &effort)
+{
+    std::vector<Runner> runners;
+    for (const Work &work : works)
+        runners.push_back({work});
+    for (Runner &runner : runners)
+        if (runner.work)
+            find_batch(runner, effort);
+    for (size_t turn = 0; turn < effort.rounds * runners.size(); turn++) {
+        Runner &runner = runners[(turn + turn / runners.size()) % runners.size()];
+        if (runner.work)
+            runner.times.push_back(take_turn(runner));
+    }
+    std::vector<double> results;
+    for (const Runner &runner : runners)
+        results.push_back(runner.work ? median(runner.times) : 0);
+    return results;
+}
 
 std::vector<double> time_task(Engines &engines, const Task &task, const Effort &effort)
 {
-    std::vector<Runner> runners;
+    std::vector<Walk> walks;
     for (auto &engine : engines)
-        runners.push_back({*engine, !task.files || engine->files() != nullptr});
-    for (Runner &runner : runners)
-        if (runner.takes_part)
-            find_batch(runner, task, effort);
-    for (size_t turn = 0; turn < effort.rounds * runners.size(); turn++) {
-        Runner &runner = runners[(turn + turn / runners.size()) % runners.size()];
-        if (runner.takes_part)
-            runner.times.push_back(take_turn(runner, task));
-    }
-    std::vector<double> results;
-    for (Runner &runner : runners) {
-        results.push_back(runner.takes_part ? median(runner.times) : 0);
-        while (task.changes && runner.place != 0)
-            step(runner, task);
-    }
+        walks.push_back({*engine});
+    std::vector<Work> works;
+    for (Walk &walk : walks)
+        works.push_back(work_of(walk, task));
+    std::vector<double> results = time_in_turns(works, effort);
+    for (Walk &walk : walks)
+        while (task.changes && walk.place != 0)
+            step(walk, task);
     return results;
 }

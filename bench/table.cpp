@@ -4,18 +4,6 @@
 
 namespace {
 
-std::string ratio_text(double nanoseconds, double base)
-{
-    if (nanoseconds == 0)
-        return "–";
-    double ratio = nanoseconds / base;
-    if (ratio >= 100)
-        return grouped(static_cast<size_t>(ratio + 0.5));
-    char text[16];
-    snprintf(text, sizeof text, ratio >= 10 ? "%.1f" : "%.2f", ratio);
-    return text;
-}
-
 void print_head(const Engines &engines, size_t base)
 {
     std::string names = "| load | operation | library, ns |", rule = "|---|---|--:|";
@@ -44,6 +32,18 @@ std::string grouped(size_t number)
     std::string text = std::to_string(number);
     for (size_t at = text.size(); at > 3; at -= 3)
         text.insert(at - 3, ",");
+    return text;
+}
+
+std::string ratio_text(double nanoseconds, double base)
+{
+    if (nanoseconds == 0)
+        return "–";
+    double ratio = nanoseconds / base;
+    if (ratio >= 100)
+        return grouped(static_cast<size_t>(ratio + 0.5));
+    char text[16];
+    snprintf(text, sizeof text, ratio >= 10 ? "%.1f" : "%.2f", ratio);
     return text;
 }
 

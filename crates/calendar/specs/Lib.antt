@@ -1,3 +1,4 @@
--- Days, and the day and time of a quarter.
+-- Days, the day and time of a quarter, and where they are shown.
 pub mod Calendar
 pub mod Moment
+pub mod Note

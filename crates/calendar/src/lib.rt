@@ -2,6 +2,7 @@
 // Nothing is refused.
 pub mod days;
 pub mod moment;
+pub mod note;
 
 // A day of the Gregorian calendar.
 pub struct Date {

@@ -1,16 +1,16 @@
 // What several answers say.
 use crate::messages::put_refusal;
 use calendar::Base;
+use calendar::note::NOTE_BYTES;
+use calendar::note::moment_text;
 use console::output::Stream;
 use console::output::put;
 use console::output::put_number;
 use model::Fault;
-use panel::rows::ROW_BYTES;
-use panel::rows::moment_text;
 
 // The quarter's number, with its day and time beside it.
 pub fn say_quarter(out: Stream, base: Base, quarter: u16) -> Stream {
-    let mut text = [0u8; ROW_BYTES];
+    let mut text = [0u8; NOTE_BYTES];
     let n = moment_text(base, quarter, &mut text);
     let named = put(out, b", quarter ");
     let numbered = put_number(named, quarter as usize);

@@ -6,10 +6,10 @@ use console::lines::Longer;
 use console::lines::fresh;
 use console::lines::next_line;
 use console::names::warn_name;
+use console::names::warn_unread;
 use console::output::put;
 use console::output::warn;
 use console::output::warn_number;
-use console::output::warn_reason;
 use console::output::warnings;
 use console::status::Ending;
 use model::Fault;
@@ -78,13 +78,6 @@ fn is_replayed(pool: &mut [u16], path: &[u8], line: &[u8], number: u64) -> bool 
             false
         }
     }
-}
-
-pub fn warn_unread(path: &[u8], error: i32) {
-    warn(b"grants: ");
-    warn_name(path);
-    warn(b" can't be read: ");
-    warn_reason(error);
 }
 
 // How a journal ends that gives no more lines.

@@ -7,9 +7,9 @@ use crate::who::Shown;
 use crate::who::none_shown;
 use crate::who::say_rows;
 use crate::who::say_who;
+use base_day::GivenBase;
+use base_day::base_at;
 use calendar::Base;
-use calendar::days::is_base;
-use console::arguments::given;
 use console::lines::Line;
 use console::lines::Longer;
 use console::lines::fresh;
@@ -18,17 +18,14 @@ use console::output::Stream;
 use console::output::answers;
 use console::output::put;
 use console::output::put_number;
-use console::output::warn;
 use console::status::Ending;
 use file_calls::load::load;
 use file_contents::door_range::has_door;
 use libc::STDIN_FILENO;
 use model::Outcome;
 use pool::layout::MAX_WORDS;
-use question::Day;
 use question::Question;
 use question::asking::question_of;
-use question::dates::day_of_text;
 use slip_session::LONGEST;
 use slip_session::program::at_end;
 
@@ -188,19 +185,9 @@ fn open(file: &[u8], base: Base) -> Ending {
 }
 
 pub fn panel(file: &[u8]) -> Ending {
-    if given() < 3 {
-        return open(file, Base::Unknown);
+    let given = base_at(3);
+    match given {
+        GivenBase::Is(base) => open(file, base),
+        GivenBase::Bad => Ending::Failed,
     }
-    let mut argument = io::buffer();
-    let length = os::arg(3, &mut argument);
-    let base = day_of_text(&argument[..length]);
-    let Day::Is(day) = base else {
-        warn(b"grants: BASE-DAY is no day: write it as 2026-01-31\n");
-        return Ending::Failed;
-    };
-    if !is_base(day) {
-        warn(b"grants: BASE-DAY is too late: its last quarter must end before the year 10000\n");
-        return Ending::Failed;
-    }
-    open(file, Base::Day(day))
 }

@@ -1,6 +1,8 @@
 // Names that people gave, as they are printed: a control byte is shown as \x and two digits, so that a name can't change a terminal.
 use crate::output::Stream;
 use crate::output::put;
+use crate::output::warn;
+use crate::output::warn_reason;
 use crate::output::warnings;
 
 fn put_control(to: Stream, byte: u8) -> Stream {
@@ -33,4 +35,12 @@ pub fn put_name(to: Stream, name: &[u8]) -> Stream {
 
 pub fn warn_name(name: &[u8]) {
     put_name(warnings(), name);
+}
+
+// A file that can't be read, and why.
+pub fn warn_unread(name: &[u8], error: i32) {
+    warn(b"grants: ");
+    warn_name(name);
+    warn(b" can't be read: ");
+    warn_reason(error);
 }

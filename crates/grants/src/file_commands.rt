@@ -8,9 +8,7 @@ use commands::report::check;
 use commands::report::show;
 use console::arguments::are;
 use console::arguments::name_at;
-use console::names::warn_name;
-use console::output::warn;
-use console::output::warn_reason;
+use console::names::warn_unread;
 use console::status::Ending;
 use grants_file::layout::MAX_BYTES;
 
@@ -40,10 +38,7 @@ fn read_then(command: FileCommand, path: &[u8]) -> Ending {
     match got {
         Read::Bytes(n) => run(command, first(&bytes, n)),
         Read::Failed(error) => {
-            warn(b"grants: ");
-            warn_name(path);
-            warn(b" can't be read: ");
-            warn_reason(error);
+            warn_unread(path, error);
             Ending::Failed
         }
     }

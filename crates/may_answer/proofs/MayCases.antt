@@ -18,7 +18,8 @@ use Rattle.text.specs.Columns.{aligned, columns}
 use Rattle.calendar.specs.Calendar.{leapYear, monthDays, nextDay, dateAfter}
 use Rattle.calendar.specs.declared.Base.{Base}
 use Rattle.calendar.specs.declared.Base.the-variants.{Unknown, Day}
-use Rattle.panel.specs.Rows.{shownBase, grantHeads}
+use Rattle.calendar.specs.Note.{shownBase}
+use Rattle.panel.specs.Rows.{grantHeads}
 use Rattle.may_answer.specs.MayText.{mayText}
 
 abbrev base : Base

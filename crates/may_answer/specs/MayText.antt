@@ -1,10 +1,10 @@
 -- What the panel answers to `may STAFF DOOR QUARTER`, by what decide answered (document 01, "The plain book": decide).
---   numbered text n                           a text with a number behind it
 --   questionText staff door quarter base      the question, with the day and time of its quarter
 --   decidingText word g base                  the word, the number of the grant that decides, its row under the heads, its times, an empty line
 --   verdictText decision base                OPENS or BARRED with that grant, or NO GRANT
 --   mayText staff door quarter base decision  the question and the decision: all that is answered
--- Rows and times are those of panel/specs/Rows. The sentence that follows a refusal is prose and no part of this text.
+-- Rows and times are those of panel/specs/Rows, the day and time that of calendar/specs/Note. The sentence that follows a refusal is prose and
+-- no part of this text.
 -- Assumes nothing: these are definitions.
 use Prim.Native.Nat.{ℕ}
 use mathlib.Core.List.{List, _++_}
@@ -12,12 +12,10 @@ use Rattle.model.specs.declared.Grant.{Grant}
 use Rattle.model.specs.declared.Decision.{Decision}
 use Rattle.model.specs.declared.Decision.the-variants.{Opens, Barred, None, Refused}
 use Rattle.text.specs.Ascii.{ascii, line}
-use Rattle.text.specs.Numeral.{numeral}
+use Rattle.text.specs.Numeral.{numbered}
 use Rattle.calendar.specs.declared.Base.{Base}
-use Rattle.panel.specs.Rows.{momentNote, grantHeads, grantRow, timesRow}
-
-abbrev pub numbered : List ℕ → ℕ → List ℕ
-numbered text n = text ++ numeral n
+use Rattle.calendar.specs.Note.{momentNote}
+use Rattle.panel.specs.Rows.{grantHeads, grantRow, timesRow}
 
 abbrev pub questionText : ℕ → ℕ → ℕ → Base → List ℕ
 questionText staff door quarter base =

@@ -4,48 +4,39 @@ ghost use mathlib.Core.Path.{_≡_};
 ghost use Prim.Native.Nat.{_+_, _≤_};
 ghost use lib.ListN.{length, take};
 ghost use Rattle.text.specs.Put.{Put, Counts};
-ghost use Rattle.may_answer.specs.MayText.{numbered, questionText, decidingText, verdictText, mayText};
+ghost use Rattle.may_answer.specs.MayText.{questionText, decidingText, verdictText, mayText};
 use calendar::Base;
+use calendar::note::put_note;
 use model::Decision;
 use model::Grant;
 use panel::rows::put_heads;
-use panel::rows::put_note;
 use panel::rows::put_row;
 use panel::rows::put_times;
 use text::put::put_byte;
-use text::put::put_number;
+use text::put::put_numbered;
 use text::put::put_text;
 
-// Room for the longest answer: 57 bytes of question, 214 of decision.
-pub const ANSWER_BYTES: usize = 271;
-
-// A text and a number behind it.
-fn put_numbered(out: &mut [u8], at: usize, text: &[u8], n: u16) -> usize
-    requires { ⌜ at + length (now text) + 5 ≤ length (now out) ⌝ }
-    ensures { λ r. ⌜ Put (now (out .entry)) at (numbered (now (text .entry)) n) r (now (out .exit)) × (r ≤ at + length (now (text .entry)) + 5) ⌝ }
-{
-    let next = put_text(out, at, text);
-    put_number(out, next, n as usize)
-}
+// Room for the longest answer: 102 bytes of question, 229 of decision.
+pub const ANSWER_BYTES: usize = 331;
 
 // The question, from the start of the line.
 fn put_question(out: &mut [u8], staff: u16, door: u16, quarter: u16, base: Base) -> usize
-    requires { ⌜ 57 ≤ length (now out) ⌝ }
-    ensures { λ r. ⌜ Put (now (out .entry)) 0 (questionText staff door quarter base) r (now (out .exit)) × (r ≤ 57) ⌝ }
+    requires { ⌜ 102 ≤ length (now out) ⌝ }
+    ensures { λ r. ⌜ Put (now (out .entry)) 0 (questionText staff door quarter base) r (now (out .exit)) × (r ≤ 102) ⌝ }
 {
-    let second = put_numbered(out, 0, b"staff ", staff);
-    let third = put_numbered(out, second, b", door ", door);
-    let end = put_numbered(out, third, b", quarter ", quarter);
+    let second = put_numbered(out, 0, b"staff ", staff as usize);
+    let third = put_numbered(out, second, b", door ", door as usize);
+    let end = put_numbered(out, third, b", quarter ", quarter as usize);
     put_note(out, end, base, quarter)
 }
 
 // The grant that decides, behind the word for its kind.
 fn put_deciding(out: &mut [u8], at: usize, word: &[u8], g: Grant, base: Base) -> usize
-    requires { ⌜ at + length (now word) + 195 ≤ length (now out) ⌝ }
+    requires { ⌜ at + length (now word) + 210 ≤ length (now out) ⌝ }
     ensures { λ r. ⌜ Put (now (out .entry)) at (decidingText (now (word .entry)) g base) r (now (out .exit))
-        × (r ≤ at + length (now (word .entry)) + 195) ⌝ }
+        × (r ≤ at + length (now (word .entry)) + 210) ⌝ }
 {
-    let first = put_numbered(out, at, word, g.number);
+    let first = put_numbered(out, at, word, g.number as usize);
     let heads = put_byte(out, first, b'\n');
     let row = put_heads(out, heads);
     let times = put_row(out, row, g);
@@ -54,8 +45,8 @@ fn put_deciding(out: &mut [u8], at: usize, word: &[u8], g: Grant, base: Base) ->
 }
 
 fn put_decision(out: &mut [u8], at: usize, decision: Decision, base: Base) -> usize
-    requires { ⌜ at + 214 ≤ length (now out) ⌝ }
-    ensures { λ r. ⌜ Put (now (out .entry)) at (verdictText decision base) r (now (out .exit)) × (r ≤ at + 214) ⌝ }
+    requires { ⌜ at + 229 ≤ length (now out) ⌝ }
+    ensures { λ r. ⌜ Put (now (out .entry)) at (verdictText decision base) r (now (out .exit)) × (r ≤ at + 229) ⌝ }
 {
     match decision {
         Decision::Opens(g) => put_deciding(out, at, b": OPENS, by grant ", g, base),

@@ -1,5 +1,4 @@
 -- Laws of what the panel shows.
 pub mod PlacedLaws
 pub mod TouchingSteps
-pub mod RowLaws
 pub mod RowCases

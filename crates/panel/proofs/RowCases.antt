@@ -14,8 +14,9 @@ use Rattle.precedence.specs.declared.Precedence.the-variants.{Whole, Partial, N
 use Rattle.calendar.specs.Calendar.{leapYear, monthDays, nextDay, dateAfter}
 use Rattle.calendar.specs.declared.Base.{Base}
 use Rattle.calendar.specs.declared.Base.the-variants.{Unknown, Day}
+use Rattle.calendar.specs.Note.{shownBase, momentNote}
 use Rattle.text.specs.Columns.{aligned, columns}
-use Rattle.panel.specs.Rows.{shownBase, grantRow, touchingRow, momentNote, timesRow}
+use Rattle.panel.specs.Rows.{grantRow, touchingRow, timesRow}
 
 abbrev on : ℕ → Base
 on y = Day (record { year = y; month = 3; day = 1 })

@@ -2,15 +2,11 @@
 --   grantHeads                    the heads of the columns of grantRow
 --   grantRow g                    number, rank, staff, doors and quarters, then `opens` or `bars`
 --   touchingRow g precedence base   number, rank, staff and last quarter, when the grant ends, `opens` or `bars`, then how far it stands
---   momentNote base q             the day and time at which a quarter starts, to stand behind its number
 --   timesRow g base               from when until when the grant holds
---   shownBase base                the base day that these count from: one of a year above 9999, which has no four digits, counts as unknown
 --   untilOf g                       the quarter at whose start the grant ends: the one after its last, as both ends belong to it
 -- Assumes nothing: these are definitions.
 use Prim.Native.Nat.{ℕ, _+_}
-use mathlib.Core.Bool.{cond}
 use mathlib.Core.List.{List, [], _∷_, _++_}
-use lib.Dec.{leb}
 use Rattle.model.specs.declared.Kind.{Kind}
 use Rattle.model.specs.declared.Kind.the-variants.{Bars, Opens}
 use Rattle.model.specs.declared.Grant.{Grant}
@@ -19,15 +15,11 @@ use Rattle.text.specs.Ascii.{ascii}
 use Rattle.text.specs.Ascii.{line}
 use Rattle.precedence.specs.declared.Precedence.{Precedence}
 use Rattle.precedence.specs.declared.Precedence.the-variants.{Whole, Partial, None}
-use Rattle.calendar.specs.Calendar.{lastYear}
 use Rattle.calendar.specs.Moment.{momentText}
+use Rattle.calendar.specs.Note.{shownBase}
 use Rattle.calendar.specs.declared.Base.{Base}
 use Rattle.calendar.specs.declared.Base.the-variants.{Unknown, Day}
 use Rattle.text.specs.Columns.{columns}
-
-unfoldable pub shownBase : Base → Base
-shownBase Unknown = Unknown
-shownBase (Day d) = cond (leb (d .year) lastYear) (Day d) Unknown
 
 abbrev pub untilOf : Grant → ℕ
 untilOf g = g .bounds .«quarter_to» + 1
@@ -45,10 +37,6 @@ precedenceText None = ascii ", OVERRIDDEN"
 abbrev pub momentColumn : Base → ℕ → List ℕ
 momentColumn Unknown q = ascii "-               "
 momentColumn (Day d) q = momentText d q
-
-abbrev pub noteAfter : Base → ℕ → List ℕ
-noteAfter Unknown q = []
-noteAfter (Day d) q = ascii " (" ++ momentText d q ++ ascii ")"
 
 abbrev pub timesFrom : Base → Grant → List ℕ
 timesFrom Unknown g = []
@@ -70,9 +58,6 @@ touchingRow g precedence base =
     ++ ascii "  "
     ++ kindText (g .kind)
     ++ precedenceText precedence)
-
-abbrev pub momentNote : Base → ℕ → List ℕ
-momentNote base q = noteAfter (shownBase base) q
 
 abbrev pub timesRow : Grant → Base → List ℕ
 timesRow g base = timesFrom (shownBase base) g

@@ -6,12 +6,14 @@ ghost use lib.ListN.{length, take};
 ghost use Rattle.model.specs.Values.{wordValues};
 ghost use Rattle.text.specs.Put.{Put, Counts};
 ghost use Rattle.calendar.specs.Calendar.{lastYear};
-ghost use Rattle.calendar.specs.Moment.{momentBytes, MomentFits};
-ghost use Rattle.panel.specs.Rows.{shownBase, kindText, precedenceText, momentColumn, noteAfter, timesFrom};
-ghost use Rattle.panel.specs.Rows.{grantHeads, grantRow, touchingRow, momentNote, timesRow};
+ghost use Rattle.calendar.specs.Moment.{momentBytes};
+ghost use Rattle.calendar.specs.Note.{shownBase};
+ghost use Rattle.panel.specs.Rows.{kindText, precedenceText, momentColumn, timesFrom};
+ghost use Rattle.panel.specs.Rows.{grantHeads, grantRow, touchingRow, timesRow};
 use calendar::Base;
 use calendar::Date;
 use calendar::moment::put_moment;
+use calendar::note::shown_base;
 use model::Grant;
 use model::Kind;
 use pool::layout::wide;
@@ -22,21 +24,6 @@ use text::put::put_text;
 
 // Room for the longest row.
 pub const ROW_BYTES: usize = 192;
-
-// The base day, unless its year has more than four digits.
-fn shown_base(base: Base) -> Base
-    ensures { λ r. ⌜ r ≡ shownBase base ⌝ }
-{
-    match base {
-        Base::Unknown => Base::Unknown,
-        Base::Day(d) => {
-            if d.year <= 9999 {
-                return Base::Day(d);
-            }
-            Base::Unknown
-        }
-    }
-}
 
 // The quarter after one.
 fn quarter_after(quarter: u16) -> usize
@@ -155,36 +142,6 @@ pub fn touching_row(
     let but = put_kind(out, word, kind);
     let end = put_precedence(out, but, precedence);
     put_byte(out, end, b'\n')
-}
-
-// A quarter's day and time, from a base day that can be shown.
-fn put_note_from(out: &mut [u8], at: usize, base: Date, quarter: usize) -> usize
-    requires { ⌜ MomentFits 19 (now out) at base quarter ⌝ }
-    ensures { λ r. ⌜ Put (now (out .entry)) at (noteAfter (Base.Day base) quarter) r (now (out .exit)) × (r ≡ at + 19) ⌝ }
-{
-    let moment = put_text(out, at, b" (");
-    let end = put_moment(out, moment, base, quarter);
-    put_byte(out, end, b')')
-}
-
-// The day and time at which a quarter starts, to stand behind its number; nothing where no base day is known.
-pub fn put_note(out: &mut [u8], at: usize, base: Base, quarter: u16) -> usize
-    requires { ⌜ at + 19 ≤ length (now out) ⌝ }
-    ensures { λ r. ⌜ Put (now (out .entry)) at (momentNote base quarter) r (now (out .exit)) × (r ≤ at + 19) ⌝ }
-{
-    let shown = shown_base(base);
-    match shown {
-        Base::Unknown => at,
-        Base::Day(d) => put_note_from(out, at, d, wide(quarter)),
-    }
-}
-
-// The same, from the start of a line.
-pub fn moment_text(base: Base, quarter: u16, out: &mut [u8; ROW_BYTES]) -> usize
-    ensures { λ r. ⌜ take r (now (out .exit)) ≡ momentNote base quarter ⌝ }
-    ensures { λ r. ⌜ Counts r (now (out .exit)) ⌝ }
-{
-    put_note(out, 0, base, quarter)
 }
 
 // When a grant holds, from a base day that can be shown.

@@ -1,6 +1,7 @@
 -- A number in decimal, without leading zeros.
---   digitsBy k n    the digits of n, at most k of them
---   numeral n       all its digits
+--   digitsBy k n        the digits of n, at most k of them
+--   numeral n           all its digits
+--   numbered text n     a text with a number behind it
 -- Assumes nothing: these are definitions.
 use Prim.Native.Nat.{ℕ, zero, suc, _+_, _/_, _%_}
 use mathlib.Core.Bool.{true, false}
@@ -19,3 +20,10 @@ digitsBy (suc k) n = elim (ltb n 10) [ true ↦ digit n ∷ [] | false ↦ digit
 -- a number has no more digits than one more than itself
 unfoldable pub numeral : ℕ → List ℕ
 numeral n = digitsBy (suc n) n
+
+abbrev pub numbered : List ℕ → ℕ → List ℕ
+numbered text n = text ++ numeral n
+
+-- a number of 64 bits has no more digits
+abbrev pub maxDigits : ℕ
+maxDigits = 20

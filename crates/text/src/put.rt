@@ -2,7 +2,7 @@
 ghost use mathlib.Core.List.{[], _∷_};
 ghost use Prim.Native.Nat.{_+_, _<_, _≤_};
 ghost use lib.ListN.{length};
-ghost use Rattle.text.specs.Numeral.{numeral};
+ghost use Rattle.text.specs.Numeral.{numeral, numbered, maxDigits};
 ghost use Rattle.text.specs.Put.{Put};
 
 // Puts a byte at a place of the line, and answers the next place.
@@ -36,4 +36,14 @@ pub fn put_number(out: &mut [u8], at: usize, n: usize) -> usize
     }
     let next = put_number(out, at, n / 10);
     put_byte(out, next, b'0' + (n % 10) as u8)
+}
+
+// Puts a text and a number behind it.
+pub fn put_numbered(out: &mut [u8], at: usize, text: &[u8], n: usize) -> usize
+    requires { ⌜ at + length (now text) + maxDigits ≤ length (now out) ⌝ }
+    ensures { λ r. ⌜ Put (now (out .entry)) at (numbered (now (text .entry)) n) r (now (out .exit))
+        × (r ≤ at + length (now (text .entry)) + maxDigits) ⌝ }
+{
+    let next = put_text(out, at, text);
+    put_number(out, next, n)
 }

@@ -5,6 +5,9 @@ use borrow.Author.Needs.{needs}
 use Rattle.may_answer.proofs.printing.put_deciding.Statement.{statement}
 use Rattle.may_answer.proofs.printing.put_deciding.Tie as tie
 
+cast-put-numbered : tie.Need-cast-put-numbered
+cast-put-numbered c = search needs
+
 put-numbered-requires : tie.Need-put-numbered-requires
 put-numbered-requires c κs = search needs
 
@@ -52,6 +55,7 @@ pub put-deciding-spec : {M : Type 1} → statement M
 put-deciding-spec =
     tie.close
     (tie.spec
+    cast-put-numbered
     put-numbered-requires
     put-byte-requires
     put-heads-requires

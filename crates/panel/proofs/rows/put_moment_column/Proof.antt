@@ -2,7 +2,7 @@
 use native.Mathlib.Omega.{arith}
 use Rattle.calendar.specs.declared.Base.{Base}
 use Rattle.panel.specs.Rows.{momentColumn}
-use Rattle.panel.proofs.RowLaws.{shown-year, shown-is}
+use Rattle.calendar.proofs.NoteLaws.{shown-year, shown-is}
 use Rattle.text.proofs.PutLaws.{put-as}
 use borrow.Author.Needs.{needs}
 use Rattle.panel.proofs.rows.put_moment_column.Statement.{statement}

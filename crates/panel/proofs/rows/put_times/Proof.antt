@@ -3,7 +3,7 @@ use native.Mathlib.Omega.{arith}
 use Rattle.calendar.specs.declared.Base.{Base}
 use Rattle.text.proofs.PutLaws.{put-none, put-as}
 use Rattle.panel.specs.Rows.{timesFrom}
-use Rattle.panel.proofs.RowLaws.{shown-year, shown-is}
+use Rattle.calendar.proofs.NoteLaws.{shown-year, shown-is}
 use borrow.Author.Needs.{needs}
 use Rattle.panel.proofs.rows.put_times.Statement.{statement}
 use Rattle.panel.proofs.rows.put_times.Tie as tie

@@ -1,7 +1,8 @@
 -- `rows::touching_row` meets its contract: piece by piece. Assumes nothing.
 use mathlib.Core.Path.{ap}
 use native.Mathlib.Omega.{arith}
-use Rattle.panel.specs.Rows.{shownBase, momentColumn}
+use Rattle.calendar.specs.Note.{shownBase}
+use Rattle.panel.specs.Rows.{momentColumn}
 use Rattle.text.proofs.PutLaws.{put-as}
 use Rattle.text.proofs.PutLaws.{put-then, put-line}
 use borrow.Author.Needs.{needs}

@@ -1,8 +1,8 @@
--- `rows::shown_base` meets its contract. Assumes nothing.
-use Rattle.panel.proofs.RowLaws.{shown-none, shown-day, shown-late}
+-- `note::shown_base` meets its contract. Assumes nothing.
+use Rattle.calendar.proofs.NoteLaws.{shown-none, shown-day, shown-late}
 use borrow.Author.Needs.{needs}
-use Rattle.panel.proofs.rows.shown_base.Statement.{statement}
-use Rattle.panel.proofs.rows.shown_base.Tie as tie
+use Rattle.calendar.proofs.note.shown_base.Statement.{statement}
+use Rattle.calendar.proofs.note.shown_base.Tie as tie
 
 enum-told : tie.Need-enum-told
 enum-told c = search needs

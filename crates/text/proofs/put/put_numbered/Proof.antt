@@ -1,19 +1,19 @@
--- `printing::put_numbered` meets its contract. Assumes nothing.
+-- `put::put_numbered` meets its contract. Assumes nothing.
 use Prim.Native.Nat.{_≤_}
 use native.Mathlib.Omega.{arith}
 use lib.ListN.{length}
-use Rattle.text.specs.Numeral.{numeral}
+use Rattle.text.specs.Numeral.{numeral, maxDigits}
 use Rattle.text.proofs.PutLaws.{put-then}
 use Rattle.text.proofs.NumeralLaws.{numeral-few}
 use borrow.Author.Needs.{needs}
-use Rattle.may_answer.proofs.printing.put_numbered.Statement.{statement}
-use Rattle.may_answer.proofs.printing.put_numbered.Tie as tie
+use Rattle.text.proofs.put.put_numbered.Statement.{statement}
+use Rattle.text.proofs.put.put_numbered.Tie as tie
 
 put-text-requires : tie.Need-put-text-requires
 put-text-requires c κs = search needs
 
-few : (a : tie.Start) → length (numeral (a .args .n)) ≤ 5
-few a = numeral-few 4 (a .args .n) (omega (arith, a .fits))
+few : (a : tie.Start) → length (numeral (a .args .n)) ≤ maxDigits
+few a = numeral-few 19 (a .args .n) (omega (arith, a .fits))
 
 put-number-requires : tie.Need-put-number-requires
 put-number-requires c κs =

@@ -1,9 +1,9 @@
--- `rows::moment_text` meets its contract. Assumes nothing.
+-- `note::moment_text` meets its contract. Assumes nothing.
 use native.Mathlib.Omega.{arith}
 use Rattle.text.proofs.PutLaws.{put-line}
 use borrow.Author.Needs.{needs}
-use Rattle.panel.proofs.rows.moment_text.Statement.{statement}
-use Rattle.panel.proofs.rows.moment_text.Tie as tie
+use Rattle.calendar.proofs.note.moment_text.Statement.{statement}
+use Rattle.calendar.proofs.note.moment_text.Tie as tie
 
 put-note-requires : tie.Need-put-note-requires
 put-note-requires c κs = search needs

@@ -1,4 +1,4 @@
--- The base day that is shown (specs/Rows).
+-- The base day that is shown (specs/Note).
 --   shown-none, shown-day, shown-late    no day, a day of a year of four digits, and of a later one
 --   shown-year               a base day that is shown has a year of four digits
 --   shown-is                 a text of what is shown is the text of the base day
@@ -10,11 +10,11 @@ use mathlib.Core.List.{List}
 use native.Mathlib.Omega.{arith}
 use borrow.Author.Tests.{leb-true, le-leb, lt-leb}
 use lib.Dec.{leb}
 use Rattle.calendar.specs.declared.Date.{Date}
 use Rattle.calendar.specs.Calendar.{lastYear}
 use Rattle.calendar.specs.declared.Base.{Base}
 use Rattle.calendar.specs.declared.Base.the-variants.{Unknown, Day}
-use Rattle.panel.specs.Rows.{shownBase}
+use Rattle.calendar.specs.Note.{shownBase}
 
 pub shown-none : Unknown ≡ shownBase Unknown
 unfolding shownBase

@@ -1,15 +1,15 @@
--- `rows::put_note` meets its contract. Assumes nothing.
+-- `note::put_note` meets its contract. Assumes nothing.
 use Prim.Native.Nat.{ℕ}
 use mathlib.Core.Path.{ap}
 use native.Mathlib.Omega.{arith}
 use Rattle.calendar.specs.declared.Base.{Base}
 use Rattle.calendar.specs.declared.Base.the-variants.{Day}
 use Rattle.text.proofs.PutLaws.{put-none, put-as}
-use Rattle.panel.specs.Rows.{noteAfter}
-use Rattle.panel.proofs.RowLaws.{shown-year, shown-is}
+use Rattle.calendar.specs.Note.{noteAfter}
+use Rattle.calendar.proofs.NoteLaws.{shown-year, shown-is}
 use borrow.Author.Needs.{needs}
-use Rattle.panel.proofs.rows.put_note.Statement.{statement}
-use Rattle.panel.proofs.rows.put_note.Tie as tie
+use Rattle.calendar.proofs.note.put_note.Statement.{statement}
+use Rattle.calendar.proofs.note.put_note.Tie as tie
 
 shown-base-requires : tie.Need-shown-base-requires
 shown-base-requires c κs = search needs
@@ -20,8 +20,8 @@ enum-told c = search needs
 enum-known-shown : tie.Need-enum-known-shown
 enum-known-shown c = search needs
 
-wide-requires : tie.Need-wide-requires
-wide-requires c κs = search needs
+counted-requires : tie.Need-counted-requires
+counted-requires c κs = search needs
 
 put-note-from-requires : tie.Need-put-note-from-requires
 put-note-from-requires c κs =
@@ -30,7 +30,7 @@ put-note-from-requires c κs =
     record {
       room = start .pre;
       year = shown-year (start .args .base) (day .before .before .shown-base .ensures) (day .shown .given .1);
-      quarter = omega (arith, c .wide .ensures .1);
+      quarter = omega (arith, c .counted .ensures .1);
     }
 
 returns : tie.Need-returns
@@ -51,7 +51,7 @@ returns-2 c =
     let start = day .before .before .before .before in
     let shown = day .before .before .shown-base .ensures in
     let known = shown-is (start .args .base) shown (λ (x : Base). noteAfter x (start .args .quarter)) (day .shown .given .1) in
-    let same = ap (λ (q : ℕ). noteAfter (Day (day .shown .given .0 .0)) q) (note .before .wide .ensures .0) in
+    let same = ap (λ (q : ℕ). noteAfter (Day (day .shown .given .0 .0)) q) (note .before .counted .ensures .0) in
     (put-as known (put-as same (note .put-note-from .ensures .0)), omega (arith, note .put-note-from .ensures .1))
 
 pub put-note-spec : {M : Type 1} → statement M
@@ -61,7 +61,7 @@ put-note-spec =
     shown-base-requires
     enum-told
     enum-known-shown
-    wide-requires
+    counted-requires
     put-note-from-requires
     returns
     same-length

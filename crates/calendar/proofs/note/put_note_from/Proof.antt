@@ -1,9 +1,9 @@
--- `rows::put_note_from` meets its contract: piece by piece. Assumes nothing.
+-- `note::put_note_from` meets its contract: piece by piece. Assumes nothing.
 use native.Mathlib.Omega.{arith}
 use Rattle.text.proofs.PutLaws.{put-then}
 use borrow.Author.Needs.{needs}
-use Rattle.panel.proofs.rows.put_note_from.Statement.{statement}
-use Rattle.panel.proofs.rows.put_note_from.Tie as tie
+use Rattle.calendar.proofs.note.put_note_from.Statement.{statement}
+use Rattle.calendar.proofs.note.put_note_from.Tie as tie
 
 slice-aggregate-put-text : tie.Need-slice-aggregate-put-text
 slice-aggregate-put-text c = search needs
