@@ -14,6 +14,7 @@
 --   parts-flatMap                      all parts of a joined list, where every part is of one width
 --   sameNumbers-true, sameNumbers-same lists that the test finds equal are equal, and it finds a list equal to itself
 --   every-zero, zero-every             a list passes as zeros exactly if it is zeros
+--   length-take-replicate              a front of a repeat is as long as asked for
 -- Assumes nothing.
 use Prim.Native.Nat.{ℕ, zero, suc, _+_, _-_, _*_, _≤_, _<_, min}
 use mathlib.Core.Path.{_≡_, refl, sym, ap, ap₂, _∙_}
@@ -26,8 +27,8 @@ use native.Mathlib.Omega.{arith}
 use native.Mathlib.Decide.{decLe}
 use borrow.Author.Tests.{eqb-true, eq-eqb}
 use lib.Dec.{eqb}
-use lib.ListN.{replicate, length, getD, take, drop, length-append, length-take}
-use lib.Seq.{drop-cons, take-nil, take-take, take-all, take-add, drop-drop, drop-at, take-at}
+use lib.ListN.{replicate, length, getD, take, drop, length-append, length-take, length-replicate}
+use lib.Seq.{length-take-le, drop-cons, take-nil, take-take, take-all, take-add, drop-drop, drop-at, take-at}
 use Rattle.lists.specs.Tests.{every, sameNumbers}
 use Rattle.lists.specs.Ranges.{countFrom}
 use Rattle.lists.proofs.RangeLaws.{length-countFrom}
@@ -194,3 +195,6 @@ pub zero-every : (n : ℕ) → every (λ x. eqb x 0) (replicate n 0) ≡ true
 unfolding every
 zero-every zero = refl
 zero-every (suc n) = zero-every n
+
+pub length-take-replicate : (m n a : ℕ) → n ≤ m → length (take n (replicate m a)) ≡ n
+length-take-replicate m n a h = length-take-le n (replicate m a) (rw (length-replicate m a) h)
