@@ -3,6 +3,7 @@
 #include "compare.hpp"
 #include "fail.hpp"
 #include "loads.hpp"
+#include "openings.hpp"
 #include "rounds.hpp"
 #include "table.hpp"
 #include "tasks.hpp"
@@ -96,4 +97,5 @@ int main(int, char **arguments)
     Engines engines = make_engines();
     for (size_t size : sizes)
         run_size(engines, size, options.seed, effort);
+    run_openings(options.seed, effort);
 }

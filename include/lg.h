@@ -1,18 +1,21 @@
-/* The grant index for C: each call is the proved entry point of its name (document 01, "The plain book", "The grants file" and "Faults").
+/* The grant index for C: each call is the proved entry point of its name (document 01, "The plain book", "The grants file" and "Faults";
+ * document 02, "Door record against panel record").
  *
  * Link with libc_api.a.
  *
- * A pool is `pool_words` words and nothing outside them. A file is `file_bytes` bytes. Lengths are in elements. Each pointer must be
- * valid for its length and aligned for its type, and memory that a call may change must not overlap the call's other memory. Every
- * call is safe on any contents: a pool that no call made is refused (1, 9) or answered, and never followed outside its words.
+ * A pool is `pool_words` words and nothing outside them. A file is `file_bytes` bytes. A record of openings is `door_bytes` or
+ * `panel_bytes` bytes: entries of 8 bytes. Lengths are in elements. Each pointer must be valid for its length and aligned for its type,
+ * and memory that a call may change must not overlap the call's other memory. Every call is safe on any contents: a pool that no call
+ * made is refused (1, 9) or answered, and never followed outside its words.
  *
  * Threads: no call keeps state or takes a lock. Calls on memory of their own may run side by side. Calls that leave a pool as it was
  * (lg_list, lg_decide, lg_count, lg_write, lg_match) may share it. A call that changes it (lg_start, lg_grant, lg_revoke, lg_load) needs
- * it alone: two at once can lose a grant that both accepted, and break the links.
+ * it alone: two at once can lose a grant that both accepted, and break the links. No call changes a file that it is given, or a record
+ * of openings: calls may share them.
  *
- * Stack: no call allocates. A call needs at most LG_STACK_BYTES beside what its caller has on the stack, on any pool and any file;
+ * Stack: no call allocates. A call needs at most LG_STACK_BYTES beside what its caller has on the stack, on any pool, file and record;
  * measured on x86-64 with the archive that `rt staticlib c_api` makes (tests/stack): lg_list 28,900 bytes, lg_write and lg_match 25,600,
- * lg_grant, lg_revoke, lg_decide and lg_count 20,900, the others 1,400.
+ * lg_compare_openings 26,300, lg_grant, lg_revoke, lg_decide and lg_count 20,900, the others 1,400.
  *
  * Every call returns one word:
  *
@@ -38,6 +41,8 @@
  *         a rank below 200, doors of the file that it does not touch; b = the block
  *     14  the lent bytes are too few; b = length needed
  *     16  the grant is over more than 1,000 doors and its rank is below 200
+ *     24  a record of openings is not whole entries, or has more than 4,096
+ *     25  in a record of openings an entry's quarter is below that of the entry before it
  */
 #ifndef LG_H
 #define LG_H
@@ -55,6 +60,10 @@ extern "C" {
 #define LG_FAULT(word) ((unsigned)((word) & 0xFFu))
 #define LG_A(word) ((uint32_t)(((word) >> 8) & 0xFFFFFFu))
 #define LG_B(word) ((uint32_t)((word) >> 32))
+
+/* The two numbers in b of lg_compare_openings. */
+#define LG_LEFT_IN_DOOR(word) (LG_B(word) >> 16)
+#define LG_LEFT_IN_PANEL(word) (LG_B(word) & 0xFFFFu)
 
 /* Makes an empty index in memory of a pool's length: 3 + 10 x C words for a capacity C of 1 to 2048. The words that it held
  * do not matter.
@@ -108,6 +117,14 @@ uint64_t lg_block(const uint8_t *file, size_t file_bytes, uint64_t block);
  * a = its length in bytes, b = where it starts in the file; both 0 where lg_block refuses the block, and for block 0, which has no
  * records. The fault's number is always 0. Leaves: everything as it was. */
 uint64_t lg_block_part(const uint8_t *file, size_t file_bytes, uint64_t block);
+
+/* Holds the door record against the panel record. A record has an entry for each opening, 8 bytes, high byte first: door (2), quarter
+ * (2), staff (4). It has up to 4,096 entries, or none; their quarters do not fall and may repeat, doors and staff come in any order.
+ * Entries are equal when all 8 bytes are. Where both records have an entry, it agrees as often as the record has it that has it less
+ * often; the others are left. Both records may be the same memory.
+ * Accepted: a = how many agree, b = left in the door record x 65,536 + left in the panel record. Refuses 24, tested on both records, and
+ * then 25. Leaves: everything as it was. */
+uint64_t lg_compare_openings(const uint8_t *door_record, size_t door_bytes, const uint8_t *panel_record, size_t panel_bytes);
 
 #ifdef __cplusplus
 }

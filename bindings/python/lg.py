@@ -2,7 +2,8 @@
 
 `Index` owns its memory, and threads may share one: it makes one call at a time. The functions make the same calls on a pool that the
 caller holds: any writable buffer of unsigned 16-bit words at an even address, as array.array("H"). There other threads run during a
-call, and the caller sees to it that readers alone share a pool and that a writer (start, grant, revoke, load) has it alone.
+call, and the caller sees to it that readers alone share a pool and that a writer (start, grant, revoke, load) has it alone. `block` and
+`block_part` read one block of a grants file, `compare_openings` holds a door record against a panel record.
 
 A call that is refused raises `Refused` and leaves all memory as it was; a value that does not fit its field, and memory that can't be
 lent, raise ValueError before the library is asked.
@@ -16,8 +17,10 @@ import ctypes
 import enum
 import operator
 import os
+import struct
 import threading
 
+DOUBLE_WORD = 0xFFFFFFFF
 WORD = 0xFFFF
 BYTE = 0xFF
 MOST_CELLS = 2048
@@ -26,6 +29,25 @@ BARS, OPENS = 0, 1
 Bounds = collections.namedtuple("Bounds", "staff_from staff_to door_from door_to quarter_from quarter_to")
 Grant = collections.namedtuple("Grant", "number rank kind bounds")
 Count = collections.namedtuple("Count", "live free")
+Comparison = collections.namedtuple("Comparison", "agree left_in_door left_in_panel")
+
+
+class Opening(collections.namedtuple("Opening", "door quarter staff")):
+    """An entry of a door record or a panel record."""
+
+    __slots__ = ()
+    _FORM = struct.Struct(">HHI")
+
+    def to_bytes(self):
+        """The entry's 8 bytes, high byte first: door (2), quarter (2), staff (4)."""
+        return self._FORM.pack(*_fits(WORD, self.door, self.quarter), *_fits(DOUBLE_WORD, self.staff))
+
+    @classmethod
+    def from_bytes(cls, entry):
+        """The opening that an entry's 8 bytes say."""
+        if len(entry) != cls._FORM.size:
+            raise ValueError("an entry has %d bytes, not %d" % (cls._FORM.size, len(entry)))
+        return cls(*cls._FORM.unpack(entry))
 
 
 class Fault(enum.IntEnum):
@@ -49,6 +71,8 @@ class Fault(enum.IntEnum):
     BadRecord = 13, "wrong record", "b"
     BufferTooShort = 14, "too few bytes", "b"
     RankTooLow = 16, "the rank is below 200, for more than 1000 doors"
+    BadOpeningsLength = 24, "a record is not whole entries, or has more than 4096"
+    UnorderedQuarters = 25, "a quarter in a record is below the one before it"
 
     def __new__(cls, number, sentence, place=None):
         fault = int.__new__(cls, number)
@@ -110,6 +134,7 @@ _ARGUMENTS = {
     "match": _POOL + _MEMORY,
     "block": _MEMORY + [ctypes.c_uint64],
     "block_part": _MEMORY + [ctypes.c_uint64],
+    "compare_openings": _MEMORY + _MEMORY,
 }
 _lg = _library()
 
@@ -152,10 +177,10 @@ def _words(memory):
     return _lend(memory, ctypes.c_uint16)
 
 
-def _file(file):
-    """Address and length of a file's bytes, and a copy that holds them for the call."""
-    held = ctypes.create_string_buffer(bytes(file), len(file) + 1)
-    return ctypes.addressof(held), len(file), held
+def _copied(data):
+    """Address and length of the bytes of a file or a record, and a copy that holds them for the call."""
+    held = ctypes.create_string_buffer(bytes(data), len(data) + 1)
+    return ctypes.addressof(held), len(data), held
 
 
 def _unpack(word):
@@ -223,7 +248,7 @@ def load(pool, file):
     """Makes the pool what start and then the file's grants make it, whatever the words were. Refuses 1, the file's faults (10; then
     for each block 12, 11, 13) and 6, in this order."""
     address, length, _held = _words(pool)
-    file_address, file_length, _file_held = _file(file)
+    file_address, file_length, _file_held = _copied(file)
     _unpack(_lg.lg_load(address, length, file_address, file_length))
 
 
@@ -231,23 +256,33 @@ def match(pool, file):
     """Holds the pool's grants that touch the file's doors against the file: None where they are equal, or the lowest number at which
     they differ. Refuses 1, the file's faults and 9, in this order."""
     address, length, _held = _words(pool)
-    file_address, file_length, _file_held = _file(file)
+    file_address, file_length, _file_held = _copied(file)
     return _unpack(_lg.lg_match(address, length, file_address, file_length))[0] or None
 
 
 def block(file, number):
     """The verdict on one block of a file, judged alone. Refuses 10, 12 and 11, in this order."""
     _fits(2**64 - 1, number)
-    address, length, _held = _file(file)
+    address, length, _held = _copied(file)
     _unpack(_lg.lg_block(address, length, number))
 
 
 def block_part(file, number):
     """The slice of the file that a block's records occupy; an empty one for block 0 and for a block that `block` refuses."""
     _fits(2**64 - 1, number)
-    address, length, _held = _file(file)
+    address, length, _held = _copied(file)
     part, where = _unpack(_lg.lg_block_part(address, length, number))
     return slice(where, where + part)
+
+
+def compare_openings(door_record, panel_record):
+    """Holds the door record against the panel record. An entry found several times in both agrees as often as in the one that has it
+    less often; the others are left. A record has at most 4,096 entries (`Opening.to_bytes`), whose quarters do not fall. Refuses 24,
+    tested on both records, and then 25."""
+    door_address, door_length, _door_held = _copied(door_record)
+    panel_address, panel_length, _panel_held = _copied(panel_record)
+    agree, left = _unpack(_lg.lg_compare_openings(door_address, door_length, panel_address, panel_length))
+    return Comparison(agree, left >> 16, left & WORD)
 
 
 class Index:

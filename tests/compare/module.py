@@ -1,5 +1,6 @@
 #!/usr/bin/env python3
-"""What the Python module adds to the calls: threads that share an index, its copies, and what it refuses before the library is asked.
+"""What the Python module adds to the calls: threads that share an index, its copies, what it refuses before the library is asked, and
+openings by their fields; its comparisons of records are held against the plain scan.
 
     module.py      says what is not as it should be
 """
@@ -7,6 +8,7 @@ import copy
 import ctypes
 import os
 import pickle
+import random
 import subprocess
 import sys
 import threading
@@ -14,13 +16,16 @@ import time
 
 ROOT = os.path.join(os.path.dirname(os.path.abspath(__file__)), "..", "..")
 MODULE = os.path.join(ROOT, "bindings", "python")
-sys.path.insert(0, MODULE)
+sys.path[:0] = [MODULE, os.path.join(ROOT, "tests", "plain")]
+import book
 import lg
+import openings
 
 WRITERS = ("lg_start", "lg_grant", "lg_revoke", "lg_load")
 EVERYTHING = (0, lg.WORD) * 3
 THREADS = 4
 GRANTS = 40
+PAIRS = 500
 
 
 def check(holds, what):
@@ -138,6 +143,58 @@ def try_capacities():
         check(lg.Index(capacity).count() == (0, capacity), "no index of %d cells" % capacity)
 
 
+def try_entries():
+    """An entry is door, quarter and staff with the high byte first; a value that does not fit its field is refused."""
+    opening = lg.Opening(0x0102, 0x0304, 0x05060708)
+    entry = bytes((1, 2, 3, 4, 5, 6, 7, 8))
+    check(opening.to_bytes() == entry, "%s has the bytes %s" % (opening, opening.to_bytes().hex()))
+    check(lg.Opening.from_bytes(entry) == opening, "%s is read as %s" % (entry.hex(), lg.Opening.from_bytes(entry)))
+    highest = lg.Opening(lg.WORD, lg.WORD, lg.DOUBLE_WORD)
+    check(highest.to_bytes() == b"\xff" * 8, "%s has the bytes %s" % (highest, highest.to_bytes().hex()))
+    for field, above in (("door", lg.WORD + 1), ("quarter", lg.WORD + 1), ("staff", lg.DOUBLE_WORD + 1)):
+        for value in (-1, above):
+            says(opening._replace(**{field: value}).to_bytes, "%d is not 0 to %d" % (value, above - 1))
+    for length in (0, 7, 9):
+        says(lambda: lg.Opening.from_bytes(bytes(length)), "8 bytes, not %d" % length)
+
+
+def any_record(drawn):
+    """A record of openings that repeat, few of them or as many as there may be, at times with a quarter that falls, one entry too many,
+    or a rest that is none."""
+    length = drawn.choice((0, 1, 2, 5, 20, 60) * 4 + (4096, 4097))
+    quarters = sorted(drawn.choice((0, 1, 255, 256, lg.WORD)) for _ in range(length))
+    if drawn.randrange(8) == 0:
+        drawn.shuffle(quarters)
+    staff = (0, 1, 65536, lg.DOUBLE_WORD)
+    record = b"".join(lg.Opening(drawn.choice((0, 1, 256)), quarter, drawn.choice(staff)).to_bytes() for quarter in quarters)
+    return record + bytes(drawn.choice((0, 0, 0, 0, 0, 0, 0, drawn.randrange(8))))
+
+
+def outcome(compare, refused, door, panel):
+    """What a comparison answers: three numbers, or a fault's number."""
+    try:
+        return tuple(compare(door, panel))
+    except refused as why:
+        return why.fault
+
+
+def try_openings():
+    """Comparisons answer as the plain scan does, with each number under its name, on whatever memory the records are in."""
+    drawn = random.Random(1)
+    memories = (bytes, bytearray, lambda record: memoryview(bytearray(record)))
+    seen = set()
+    for _ in range(PAIRS):
+        door, panel = any_record(drawn), any_record(drawn)
+        right = outcome(openings.compare, book.Refused, door, panel)
+        ours = outcome(lg.compare_openings, lg.Refused, drawn.choice(memories)(door), drawn.choice(memories)(panel))
+        check(ours == right, "%s is right, the module answers %s to records %s and %s" % (right, ours, door.hex(), panel.hex()))
+        seen.add(right if isinstance(right, int) else right[0] > 0)
+    check(seen == {True, False, 24, 25}, "the records compared have only these outcomes: %s" % seen)
+    one, other = (lg.Opening(1, 2, staff).to_bytes() for staff in (3, 4))
+    compared = lg.compare_openings(one * 3, one + other * 3)
+    check(compared._asdict() == {"agree": 1, "left_in_door": 2, "left_in_panel": 3}, "numbers under other names: %s" % (compared,))
+
+
 def try_library(path):
     """Without a library, importing the module says how to make one."""
     environment = dict(os.environ, LG_LIBRARY=path, PYTHONPATH=MODULE)
@@ -150,6 +207,11 @@ def try_library(path):
 try_copies()
 try_memory()
 try_capacities()
+try_entries()
+try_openings()
 try_library(os.path.join(ROOT, "no", "liblg.so"))
 try_library(os.path.abspath(__file__))
-print("compare: threads that share a Python index keep all of %d grants; the module refuses what can't be lent" % try_threads())
+print(
+    "compare: threads that share a Python index keep all of %d grants; the module refuses what can't be lent; %d pairs of records as"
+    " the plain scan has them" % (try_threads(), PAIRS)
+)

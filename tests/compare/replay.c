@@ -212,13 +212,29 @@ static uint64_t call_part(struct replay *r)
     return word;
 }
 
+/* Both records are in one memory, the panel record behind the door record; where the line says `same`, the door record is both. */
+static uint64_t call_openings(struct replay *r)
+{
+    struct memory door = elements(r, 2);
+    int same = strncmp(r->next, " same ", 6) == 0;
+    struct memory panel = same ? lend(0) : elements(r, 2);
+    uint8_t *records = lend_bytes(r, door.bytes + panel.bytes);
+    memcpy(records, contents(door), door.bytes);
+    memcpy(records + door.bytes, contents(panel), panel.bytes);
+    const uint8_t *panel_record = same ? records : records + door.bytes;
+    uint64_t word = lg_compare_openings(records, door.bytes, panel_record, same ? door.bytes : panel.bytes);
+    free(door.all);
+    free(panel.all);
+    return word;
+}
+
 static const struct {
     const char *name;
     uint64_t (*call)(struct replay *);
 } calls[] = {
     {"start", call_start}, {"grant", call_grant}, {"revoke", call_revoke}, {"list", call_list},
     {"decide", call_decide}, {"count", call_count}, {"write", call_write}, {"load", call_load},
-    {"match", call_match}, {"block", call_block}, {"part", call_part},
+    {"match", call_match}, {"block", call_block}, {"part", call_part}, {"openings", call_openings},
 };
 
 /* Makes the call of a name; the line goes on behind it. */

@@ -84,6 +84,18 @@ def part(file, number):
     return piece.stop - piece.start, piece.start
 
 
+def compared(door, panel):
+    """The values a and b of a comparison, and both records, one behind the other; `same` stands for one memory as both."""
+    lent = Guarded("B", data(door) + (b"" if panel == "same" else data(panel)))
+    door_record, behind = lent.view[: len(data(door))], lent.view[len(data(door)) :]
+    try:
+        agree, left_in_door, left_in_panel = lg.compare_openings(door_record, door_record if panel == "same" else behind)
+    except lg.Refused as refused:
+        refused.lent = lent
+        raise
+    return agree, left_in_door << 16 | left_in_panel, lent
+
+
 def make(pool, name, fields):
     """The values a and b of a call, and the memory lent to it."""
     calls = {"grant": grant, "list": listed, "decide": decide, "write": written}
@@ -103,7 +115,9 @@ def make(pool, name, fields):
     if name == "block":
         lg.block(data(fields[1]), int(fields[0]))
         return 0, 0, nothing
-    return *part(data(fields[1]), int(fields[0])), nothing
+    if name == "part":
+        return *part(data(fields[1]), int(fields[0])), nothing
+    return compared(*fields)
 
 
 def answer(pool, name, fields):

@@ -1,6 +1,6 @@
 /* How much stack each call of include/lg.h needs at most: it is made on memory that was painted, and the deepest byte that changed is
  * looked for. The pools are full ones that calls made, one of them as deep as calls can make it, and scrambled ones whose cells hang
- * down to level 112; the lists, files and pools have the most that there can be.
+ * down to level 112; the lists, files, pools and records of openings have the most that there can be.
  *
  *     stack      prints a row for each call; status 1 where one needs more than LG_STACK_BYTES */
 #define _XOPEN_SOURCE 700
@@ -12,12 +12,13 @@
 #include <ucontext.h>
 
 enum { CELLS = 2048, WORDS = 3 + 10 * CELLS, FILE_BYTES = 512 * 68, LEVELS = 112, AXES = 7, TOP = 65535, PAINTED = 256 * 1024 };
+enum { ENTRIES = 4096, ENTRY_BYTES = 8, RECORD_BYTES = ENTRY_BYTES * ENTRIES };
 
 /* The words of a cell: two links, the number, rank and kind, and the six ends of the box. */
 enum { LEFT, RIGHT, NUMBER, RANK_KIND, STAFF_FROM, STAFF_TO, DOOR_FROM, DOOR_TO, QUARTER_FROM, QUARTER_TO, CELL_WORDS };
 
 static uint16_t pool[WORDS], kept[WORDS], list[CELLS], decided[10];
-static uint8_t file[FILE_BYTES], bytes[FILE_BYTES];
+static uint8_t file[FILE_BYTES], bytes[FILE_BYTES], door_record[RECORD_BYTES], panel_record[RECORD_BYTES];
 static size_t file_bytes;
 static uint16_t number, point;
 static uint64_t answer;
@@ -40,6 +41,7 @@ static void call_load(void) { answer = lg_load(pool, WORDS, file, file_bytes); }
 static void call_match(void) { answer = lg_match(pool, WORDS, file, file_bytes); }
 static void call_block(void) { answer = lg_block(file, file_bytes, 67); }
 static void call_part(void) { answer = lg_block_part(file, file_bytes, 67); }
+static void call_openings(void) { answer = lg_compare_openings(door_record, RECORD_BYTES, panel_record, RECORD_BYTES); }
 
 static struct {
     const char *name;
@@ -50,7 +52,7 @@ static struct {
     {"lg_start", call_start, 0, 0, 0},   {"lg_grant", call_grant, 0, 0, 0},     {"lg_revoke", call_revoke, 0, 0, 0},
     {"lg_list", call_list, 0, 0, 0},     {"lg_decide", call_decide, 0, 0, 0},   {"lg_count", call_count, 0, 0, 0},
     {"lg_write", call_write, 0, 0, 0},   {"lg_load", call_load, 0, 0, 0},       {"lg_match", call_match, 0, 0, 0},
-    {"lg_block", call_block, 0, 0, 0},   {"lg_block_part", call_part, 0, 0, 0},
+    {"lg_block", call_block, 0, 0, 0},   {"lg_block_part", call_part, 0, 0, 0}, {"lg_compare_openings", call_openings, 0, 0, 0},
 };
 enum { CALLS = sizeof calls / sizeof *calls };
 
@@ -188,6 +190,46 @@ static void make_scrambled(int equal)
     }
 }
 
+/* Puts the i-th entry of a record: door, quarter and staff, high byte first. */
+static void put_entry(uint8_t *record, unsigned i, uint16_t door, uint16_t quarter, uint32_t staff)
+{
+    uint64_t fields = (uint64_t)door << 48 | (uint64_t)quarter << 32 | staff;
+    for (unsigned at = 0; at < ENTRY_BYTES; at++)
+        record[ENTRY_BYTES * i + at] = (uint8_t)(fields >> 8 * (ENTRY_BYTES - 1 - at));
+}
+
+/* Full records: entries at random in rising quarters; those of one quarter, rising against falling; one entry throughout. */
+enum { SPREAD, OPPOSED, EQUAL, SHAPES };
+
+static void make_records(int shape)
+{
+    for (unsigned i = 0; i < ENTRIES; i++)
+        if (shape == SPREAD) {
+            put_entry(door_record, i, any(), (uint16_t)i, (uint32_t)any() << 16 | any());
+            put_entry(panel_record, i, any(), (uint16_t)i, (uint32_t)any() << 16 | any());
+        } else {
+            put_entry(door_record, i, TOP, TOP, shape == EQUAL ? 0 : i);
+            put_entry(panel_record, ENTRIES - 1 - i, TOP, TOP, shape == EQUAL ? 0 : i);
+        }
+}
+
+/* Every call beside full records of each shape, and beside one whose last quarter falls. */
+static void measure_records(void)
+{
+    for (int shape = 0; shape < SHAPES; shape++) {
+        make_records(shape);
+        call_openings();
+        if (LG_FAULT(answer) != 0)
+            fail("full records are refused");
+        measure();
+    }
+    put_entry(panel_record, ENTRIES - 1, TOP, 0, 0);
+    call_openings();
+    if (LG_FAULT(answer) != 25)
+        fail("a quarter that falls is not refused");
+    measure();
+}
+
 /* Every call on scrambled pools along the way to a point and a number: whole, where the number is the deepest cell's or none's, and
  * with a link at level 112. */
 static void measure_scrambled(uint16_t to_point, uint16_t to_number)
@@ -223,13 +265,14 @@ int main(void)
     measure();
     measure_scrambled(TOP, TOP);
     measure_scrambled(0, 1);
+    measure_records();
     file[FILE_BYTES - 1] ^= 1;
     measure();
 
     int status = 0;
     for (size_t i = 0; i < CALLS; i++) {
         int more = calls[i].most > LG_STACK_BYTES;
-        printf("%-14s %6zu bytes at most in %u calls, %u of them refused%s\n", calls[i].name, calls[i].most, calls[i].made, calls[i].refused,
+        printf("%-19s %6zu bytes at most in %u calls, %u of them refused%s\n", calls[i].name, calls[i].most, calls[i].made, calls[i].refused,
                more ? ": more than LG_STACK_BYTES" : "");
         status |= more;
     }

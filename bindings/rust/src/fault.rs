@@ -80,6 +80,10 @@ faults! {
     14 => BufferTooShort { needed: usize = b }, "too few bytes: {needed} needed";
     /// a grant over more than 1,000 doors has a rank below 200.
     16 => RankTooLow, "the rank is below 200, for more than 1000 doors";
+    /// a record of openings is not whole entries, or has more than 4,096.
+    24 => BadOpeningsLength, "a record is not whole entries, or has more than 4096";
+    /// in a record of openings an entry's quarter is below that of the entry before it.
+    25 => UnorderedQuarters, "a quarter in a record is below the one before it";
 }
 
 impl std::error::Error for Fault {}

@@ -5,7 +5,8 @@ ghost use Rattle.model.specs.Call.{request};
 ghost use Rattle.calls.specs.Calls.{startCall, grantCall, revokeCall, listCall, decideCall, countCall};
 ghost use Rattle.block_read.specs.BlockRead.{blockCall};
 ghost use Rattle.calls.specs.FileCalls.{writeCall, loadCall, matchCall};
-ghost use Rattle.packing.specs.Pack.{pack, packPair, packLength};
+ghost use Rattle.openings.specs.Compare.{compareCall};
+ghost use Rattle.packing.specs.Pack.{pack, packPair, packLength, packThree};
 ghost use Rattle.packing.specs.Decision.{PacksOut};
 ghost use Rattle.c_api.specs.Contract.{PacksPool, PacksLent, packPart, boxOf};
 use block_read::part::block_part;
@@ -18,7 +19,9 @@ use index::grant::grant;
 use index::revoke::revoke;
 use index::start::start;
 use model::Box;
+use openings::compare::compare_openings;
 use packing::B_VALUES;
+use packing::pack_compared;
 use packing::pack_counted;
 use packing::pack_decision;
 use packing::pack_listed;
@@ -167,4 +170,12 @@ pub extern "C" fn lg_block_part(file: &[u8], block: u64) -> u64
     // A block number past what `b` holds is in no file; its remainder keeps the product in range.
     let start = BLOCK_BYTES as u64 * (block % B_VALUES) + RECORDS_PLACE as u64;
     word(0, size as u64, start)
+}
+
+// Refuses 24, tested on both records, and then 25.
+#[no_mangle]
+pub extern "C" fn lg_compare_openings(door_record: &[u8], panel_record: &[u8]) -> u64
+    ensures { λ r. ⌜ r ≡ packThree (compareCall (now («door_record» .entry)) (now («panel_record» .entry)) .answer) ⌝ }
+{
+    pack_compared(compare_openings(door_record, panel_record))
 }

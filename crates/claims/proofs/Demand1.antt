@@ -1,6 +1,6 @@
 -- Demand 1, field by field: each call is judged by its order line, with 9's causes and the hits taken from document 01's links, and every
 -- call but start, load, grant and revoke leaves the pool as it was.
---   start-judged .. block-judged    one law for each call, of the type of its field in specs/Claims
+--   start-judged .. compare-judged  one law for each call, of the type of its field in specs/Claims
 --   keeps-pool                      the field of that name
 --   demand1                         the demand; its last field, that pools made by calls never give 9, is one of those that they keep (KeepsLaws)
 -- Assumes nothing.
@@ -25,6 +25,7 @@ use Rattle.model.proofs.JudgedLaws.{refusing-judged, judged-same, refusing-keep
 use Rattle.geometry.specs.SearchRange.{rangeOfBox, rangeOfDoors, rangeOfNumber, rangeOfAll}
 use Rattle.grants_file.specs.File.{doorsIn}
 use Rattle.block_read.specs.BlockRead.{readCauses, blockCall}
+use Rattle.openings.specs.Compare.{openingsOrder, compareCall}
 use Rattle.calls.specs.LinkCauses.{searchMeets9, searchHits, grantMeets9, revokeMeets9}
 use Rattle.calls.specs.Order.{startOrder, grantOrder, revokeOrder, listOrder, lookOrder, writeOrder, loadOrder, matchOrder}
 use Rattle.calls.specs.Calls.{startCall, grantCall, revokeCall, listCall, decideCall, countCall}
@@ -116,6 +117,10 @@ pub block-judged : (f : List ℕ) (i : ℕ) → Judged (readCauses f i) f [] (bl
 unfolding blockCall
 block-judged f i = judged-by _ _ f [] _ refl (_, refl)
 
+pub compare-judged : (door panel : List ℕ) → Judged (openingsOrder door panel) door panel (compareCall door panel)
+unfolding compareCall
+compare-judged door panel = judged-by _ _ door panel _ refl (_, refl)
+
 pub keeps-pool : (w : List ℕ) (q : Box) (doors : Interval) (lent f : List ℕ) (staff door quarter : ℕ)
     → (listCall w q lent .state ≡ w) × (decideCall w staff door quarter .state ≡ w) × (countCall w .state ≡ w)
     × (writeCall w doors lent .state ≡ w) × (matchCall w f .state ≡ w)
@@ -142,6 +147,7 @@ demand1 =
       load = load-judged;
       «match» = match-judged;
       block = block-judged;
+      compare = compare-judged;
       keeps-pool = keeps-pool;
       never-broken = λ c w gs made. made-pools c w gs made .never-broken;
     }

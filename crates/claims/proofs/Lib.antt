@@ -9,6 +9,8 @@ pub mod TriedCases
 pub mod MadeLaws
 pub mod KeepsLaws
 pub mod SeniorLaws
+pub mod OpeningsLaws
+pub mod RecordCases
 pub mod Demand1
 pub mod Demand2
 pub mod Demand3

@@ -18,7 +18,8 @@ use Rattle.lists.specs.Tests.{every}
 use Rattle.lists.proofs.EveryLaws.{every-append}
 use Rattle.model.specs.declared.Fault.{Fault}
 use Rattle.model.specs.declared.Fault.the-variants.{BadPool, Reversed, ZeroNumber, UnknownKind, AlreadyLive, Full, NotLive, ListTooShort, BrokenLinks}
-use Rattle.model.specs.declared.Fault.the-variants.{BadLength, BadLayout, BadChecksum, BadRecord, BufferTooShort, RankTooLow}
+use Rattle.model.specs.declared.Fault.the-variants.{BadLength, BadLayout, BadChecksum, BadRecord, BufferTooShort, RankTooLow, BadOpeningsLength}
+use Rattle.model.specs.declared.Fault.the-variants.{UnorderedQuarters}
 use Rattle.model.specs.Fault.{faultNumber, faultValues}
 use Rattle.model.specs.Answer.{Answer, refusal}
 use Rattle.model.specs.Refusal.{Cause, Step, firstFault, stepBy, refusing}
@@ -28,7 +29,7 @@ use Rattle.claims.specs.PackedFits.{FitsRefusal}
 abbrev pub Small : Fault → Type 0
 Small f = firstOf (faultValues f) < aValues
 
--- the numbers go from 1 to 16
+-- the numbers go from 1 to 25
 fault-number : (f : Fault) → (0 < faultNumber f) × (faultNumber f < numberValues)
 fault-number BadPool = (lit< tt, lit< tt)
 fault-number Reversed = (lit< tt, lit< tt)
@@ -45,6 +46,8 @@ fault-number (BadChecksum block) = (lit< tt, lit< tt)
 fault-number (BadRecord block) = (lit< tt, lit< tt)
 fault-number (BufferTooShort needed) = (lit< tt, lit< tt)
 fault-number RankTooLow = (lit< tt, lit< tt)
+fault-number BadOpeningsLength = (lit< tt, lit< tt)
+fault-number UnorderedQuarters = (lit< tt, lit< tt)
 
 pub fault-fits : (f : Fault) → Small f → FitsRefusal (faultNumber f) (faultValues f)
 fault-fits f small = record { some = fault-number f .0; few = fault-number f .1; value = go (eqb (faultNumber f) 8) }

@@ -59,9 +59,13 @@ use Rattle.calls.specs.Causes.{lengthNeeded}
 use Rattle.calls.specs.Order.{startOrder, grantOrder, revokeOrder, listOrder, lookOrder, writeOrder, loadOrder, matchOrder}
 use Rattle.calls.specs.Calls.{startCall, grantCall, revokeCall, listCall, decideCall, countCall}
 use Rattle.calls.specs.FileCalls.{touchingGrants, writeCall, loadCall, firstDifference, matchCall}
+use Rattle.openings.specs.Record.{wrongSize}
+use Rattle.openings.specs.Compare.{openingsOrder, compareCall}
+use Rattle.openings.proofs.DefectLaws.{wrongSize-sized}
+use Rattle.openings.proofs.CompareLaws.{comparison-few}
 use Rattle.packing.specs.Pack.{aValues}
 use Rattle.calls.proofs.FewHitsLaws.{hits-few}
-use Rattle.claims.specs.PackedFits.{Fits, FitsPair, FitsLength, FitsPart, AnswersFit}
+use Rattle.claims.specs.PackedFits.{Fits, FitsPair, FitsLength, FitsThree, FitsPart, AnswersFit}
 use Rattle.claims.proofs.PackedFaultLaws.{SmallAll, SmallFirst, fault-fits, small-all, small-first, small-append, call-fits}
 
 capacity-most : (w : List ℕ) → wrongPool w ≡ false → capacityOf w ≤ maxGrants
@@ -260,6 +264,17 @@ part-fits f i = go (part-cases f i)
           place = omega (arith, ap (λ (x : Part). x .from) (h .part), b .inside, b .whole .few);
         }
 
+compare-fits : (door panel : List ℕ) → FitsThree (compareCall door panel .answer)
+unfolding compareCall openingsOrder every
+compare-fits door panel =
+    call-fits FitsThree fault-fits _ door panel _ (small-all _ refl)
+    (λ e.
+    let right = or-false-iff (wrongSize door) (wrongSize panel) .0 (causes-absent _ _ e .0) in
+    let few = comparison-few door panel in
+    let in-door = wrongSize-sized door (right .0) .few in
+    let in-panel = wrongSize-sized panel (right .1) .few in
+    (omega arith, omega arith, omega arith))
+
 pub answers-fit : AnswersFit
 answers-fit =
     record {
@@ -274,4 +289,5 @@ answers-fit =
       «match» = match-fits;
       block = block-fits;
       part = part-fits;
+      compare = compare-fits;
     }

@@ -5,12 +5,13 @@
 use Prim.Native.Nat.{ℕ, _<_}
 use mathlib.Core.Bool.{Bool, true, false, cond}
 use mathlib.Core.List.{List}
+use native.Mathlib.Omega.{arith}
 use lib.Dec.{eqb, lit<}
 use Rattle.block_read.specs.BlockRead.{partAt}
-use Rattle.packing.specs.Pack.{numberValues, aValues, bValues, word, firstOf, packRefusal, listFault}
+use Rattle.packing.specs.Pack.{numberValues, aValues, bValues, leftValues, word, firstOf, halves, packRefusal, listFault}
 use Rattle.c_api.specs.Contract.{packPart}
 use Rattle.claims.specs.PackedFits.{FitsRefusal, FitsPart}
-use Rattle.claims.specs.PackedReads.{Reads, ReadsBack}
+use Rattle.claims.specs.PackedReads.{Reads, ReadsHalves, ReadsBack}
 use Rattle.packing.proofs.PackLaws.{number-word, a-word, b-word}
 
 pub reads-word : (number a b : ℕ) → number < numberValues → a < aValues → b < bValues → Reads (word number a b) number a b
@@ -29,6 +30,15 @@ refusal-reads number values h = go (eqb number listFault) (h .value)
     go true k = reads-word number v 0 (h .few) k (lit< tt)
     go false k = reads-word number 0 v (h .few) (lit< tt) k
 
+module _ (x y : ℕ) (h : x < leftValues) (l : y < leftValues) where
+  halves-fit : halves x y < bValues
+  unfolding halves
+  halves-fit = omega arith
+
+  halves-read : ReadsHalves (halves x y) x y
+  unfolding halves
+  halves-read = record { high-read = omega arith; low-read = omega arith }
+
 part-reads : (f : List ℕ) (i : ℕ) → FitsPart f i → Reads (packPart f i) 0 (partAt f i .size) (partAt f i .from)
 unfolding packPart
 part-reads f i h = reads-word 0 (partAt f i .size) (partAt f i .from) (lit< tt) (h .size) (h .place)
@@ -40,5 +50,6 @@ reads-back =
       values = λ values h. reads-word 0 _ 0 (lit< tt) h (lit< tt);
       pairs = λ values h. reads-word 0 _ _ (lit< tt) (h .0) (h .1);
       lengths = λ values h. reads-word 0 0 _ (lit< tt) (lit< tt) h;
+      threes = λ values h. (reads-word 0 _ _ (lit< tt) (h .0) (halves-fit _ _ (h .1) (h .2)), halves-read _ _ (h .1) (h .2));
       parts = part-reads;
     }

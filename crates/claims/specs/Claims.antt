@@ -42,6 +42,7 @@ use Rattle.grants_file.specs.Record.{encodeRecord}
 use Rattle.grants_file.specs.File.{chunk, fileOf, blocksIn, doorsIn, grantsIn}
 use Rattle.block_read.specs.BlockRead.{readCauses, partOf, blockCall}
 use Rattle.grants_file.specs.FileSets.{Accepted, FileSet, Ordering}
+use Rattle.openings.specs.Compare.{openingsOrder, compareCall}
 use Rattle.calls.specs.LinkCauses.{searchMeets9, searchHits, grantMeets9, revokeMeets9}
 use Rattle.calls.specs.Order.{startOrder, grantOrder, revokeOrder, listOrder, lookOrder, writeOrder, loadOrder, matchOrder}
 use Rattle.calls.specs.Calls.{startCall, grantCall, revokeCall, listCall, decideCall, countCall, wordsStep}
@@ -124,6 +125,7 @@ pub record Demand1 : Type 0 where
   pub load : (w f : List ℕ) → Judged (loadOrder w f) w [] (loadCall w f)
   pub «match» : (w f : List ℕ) → Judged (matchOrder w f (searchMeets9 w (rangeOfDoors (doorsIn f)))) w [] (matchCall w f)
   pub block : (f : List ℕ) (i : ℕ) → Judged (readCauses f i) f [] (blockCall f i)
+  pub compare : (door panel : List ℕ) → Judged (openingsOrder door panel) door panel (compareCall door panel)
   -- every call but start, load, grant and revoke leaves the pool as it was
   pub keeps-pool : (w : List ℕ) (q : Box) (doors : Interval) (lent f : List ℕ) (staff door quarter : ℕ)
       → (listCall w q lent .state ≡ w) × (decideCall w staff door quarter .state ≡ w) × (countCall w .state ≡ w)

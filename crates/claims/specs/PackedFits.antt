@@ -3,6 +3,7 @@
 --   Fits answer                  for pack: of an accepted answer the first value, as a
 --   FitsPair answer              for packPair: the first value as a, the second as b
 --   FitsLength answer            for packLength: the first value as b
+--   FitsThree answer             for packThree: the first value as a, the second and the third as the halves of b
 --   FitsPart f i                 for packPart: the length of block i's part as a, the place where it starts as b
 --   AnswersFit                   the claim: each C function's answer fits its packing, on any memory and whatever is asked
 -- Assumes nothing: these are definitions.
@@ -18,7 +19,8 @@ use Rattle.model.specs.Values.{wordValues, byteValues, Below}
 use Rattle.block_read.specs.BlockRead.{partAt, blockCall}
 use Rattle.calls.specs.Calls.{startCall, grantCall, revokeCall, listCall, decideCall, countCall}
 use Rattle.calls.specs.FileCalls.{writeCall, loadCall, matchCall}
-use Rattle.packing.specs.Pack.{numberValues, aValues, bValues, firstOf, secondOf, listFault}
+use Rattle.openings.specs.Compare.{compareCall}
+use Rattle.packing.specs.Pack.{numberValues, aValues, bValues, leftValues, firstOf, secondOf, thirdOf, listFault}
 
 -- fault 8's value is a, any other fault's b
 pub record FitsRefusal (number : ℕ) (values : List ℕ) : Type 0 where
@@ -38,6 +40,10 @@ abbrev pub FitsLength : Answer → Type 0
 FitsLength (accepted values) = firstOf values < bValues
 FitsLength (refused number values) = FitsRefusal number values
 
+abbrev pub FitsThree : Answer → Type 0
+FitsThree (accepted values) = (firstOf values < aValues) × (secondOf values < leftValues) × (thirdOf values < leftValues)
+FitsThree (refused number values) = FitsRefusal number values
+
 pub record FitsPart (f : List ℕ) (i : ℕ) : Type 0 where
   pub size : partAt f i .size < aValues
   pub place : partAt f i .from < bValues
@@ -55,3 +61,4 @@ pub record AnswersFit : Type 0 where
   pub «match» : (w f : List ℕ) → Below wordValues w → Below byteValues f → Fits (matchCall w f .answer)
   pub block : (f : List ℕ) (i : ℕ) → Fits (blockCall f i .answer)
   pub part : (f : List ℕ) (i : ℕ) → FitsPart f i
+  pub compare : (door panel : List ℕ) → FitsThree (compareCall door panel .answer)

@@ -3,6 +3,7 @@ use crate::pages::say_all;
 use crate::pages::say_check;
 use crate::pages::say_cut;
 use crate::pages::say_match;
+use crate::pages::say_openings;
 use crate::pages::say_panel;
 use crate::pages::say_show;
 use crate::pages::say_slips;
@@ -56,6 +57,9 @@ fn page(command: &[u8]) -> Ending {
     }
     if same(command, b"match") {
         return paged(say_match());
+    }
+    if same(command, b"openings") {
+        return paged(say_openings());
     }
     if same(command, b"check") {
         return paged(say_check());

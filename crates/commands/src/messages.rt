@@ -93,6 +93,14 @@ fn put_fault(to: Stream, f: Fault) -> Stream {
             put_seniority(to),
             b": let a supervisor give it that rank, or name fewer doors",
         ),
+        Fault::BadOpeningsLength => put(
+            to,
+            b"a record of openings is not up to 4096 whole entries of 8 bytes: ask for the record again",
+        ),
+        Fault::UnorderedQuarters => put(
+            to,
+            b"a record of openings goes back in time: ask for the record again",
+        ),
     }
 }
 

@@ -18,6 +18,14 @@ pub fn say_all() -> Stream {
     );
     let out = put(
         out,
+        b"grants openings DOOR-RECORD PANEL-RECORD [BASE-DAY]\n",
+    );
+    let out = put(
+        out,
+        b"                                 match: hold a door's record of openings against the panel's\n",
+    );
+    let out = put(
+        out,
         b"grants check FILE                whether a file is sound, and if not, what is wrong in it\n",
     );
     let out = put(
@@ -109,6 +117,34 @@ pub fn say_match() -> Stream {
         b"the file: equal, or the lowest number that differs, with both sides whole.\n",
     );
     put(out, b"Example: grants match night.txt bank.lgf\n")
+}
+
+pub fn say_openings() -> Stream {
+    let out = put(
+        answers(),
+        b"grants openings DOOR-RECORD PANEL-RECORD [BASE-DAY]\n",
+    );
+    let out = put(
+        out,
+        b"Holds a door's record of openings against the panel's: how many entries agree, how\n",
+    );
+    let out = put(
+        out,
+        b"many are left in each, and which, up to 20 of each. Entries agree where door, quarter\n",
+    );
+    let out = put(
+        out,
+        b"and staff do. A record has at most 4096 entries, and no quarter below the one before.\n",
+    );
+    let out = put(
+        out,
+        b"BASE-DAY is the day from which your quarter-hours are counted; with it, day and\n",
+    );
+    let out = put(out, b"time stand beside each quarter.\n");
+    put(
+        out,
+        b"Example: grants openings door.rec panel.rec 2026-01-01\n",
+    )
 }
 
 pub fn say_check() -> Stream {

@@ -33,6 +33,9 @@ fn run(command: &[u8]) -> Ending {
     if same(command, b"match") {
         return on_file(FileCommand::Match);
     }
+    if same(command, b"openings") {
+        return openings_command::openings();
+    }
     if same(command, b"check") {
         return on_file(FileCommand::Check);
     }

@@ -18,6 +18,7 @@ use Rattle.model.specs.declared.Grant.{Grant}
 use Rattle.model.specs.declared.Fault.{Fault}
 use Rattle.model.specs.declared.Fault.the-variants.{BadPool, Reversed, ZeroNumber, UnknownKind, AlreadyLive, Full, NotLive, ListTooShort}
 use Rattle.model.specs.declared.Fault.the-variants.{BrokenLinks, BadLength, BadLayout, BadChecksum, BadRecord, BufferTooShort, RankTooLow}
+use Rattle.model.specs.declared.Fault.the-variants.{BadOpeningsLength, UnorderedQuarters}
 use Rattle.model.specs.declared.Outcome.{Outcome}
 use Rattle.model.specs.declared.Outcome.the-variants as outcome
 use Rattle.model.specs.declared.Listed.{Listed}
@@ -39,13 +40,14 @@ use Rattle.model.specs.Answer.{matchedAnswer}
 injective-by : {A B : Type 0} (f : A → B) (g : B → A) → ((a : A) → g (f a) ≡ a) → (a b : A) → f a ≡ f b → a ≡ b
 injective-by f g back a b e = sym (back a) ∙ (ap g e ∙ back b)
 
--- the faults, each at its number; 0 and 15 are no fault's
+-- the faults, each at its number; 0, 15 and 17 to 23 are no fault's
 faultOf : ℕ → List ℕ → Fault
 faultOf number values =
     let v = getD values 0 0 in
     getD
     (BadPool ∷ BadPool ∷ Reversed ∷ ZeroNumber ∷ UnknownKind ∷ AlreadyLive ∷ Full ∷ NotLive ∷ ListTooShort v ∷ BrokenLinks ∷ BadLength
-    ∷ BadLayout v ∷ BadChecksum v ∷ BadRecord v ∷ BufferTooShort v ∷ BadPool ∷ RankTooLow ∷ [])
+    ∷ BadLayout v ∷ BadChecksum v ∷ BadRecord v ∷ BufferTooShort v ∷ BadPool ∷ RankTooLow
+    ∷ BadPool ∷ BadPool ∷ BadPool ∷ BadPool ∷ BadPool ∷ BadPool ∷ BadPool ∷ BadOpeningsLength ∷ UnorderedQuarters ∷ [])
     number
     BadPool
 
@@ -71,6 +73,8 @@ faultIn-refusal (BadChecksum block) = refl
 faultIn-refusal (BadRecord block) = refl
 faultIn-refusal (BufferTooShort needed) = refl
 faultIn-refusal RankTooLow = refl
+faultIn-refusal BadOpeningsLength = refl
+faultIn-refusal UnorderedQuarters = refl
 
 pub refusal-injective : (f g : Fault) → refusal f ≡ refusal g → f ≡ g
 refusal-injective = injective-by refusal faultIn faultIn-refusal

@@ -24,6 +24,8 @@ pub fn fault_number(f: Fault) -> usize
         Fault::BadRecord { block: _ } => 13,
         Fault::BufferTooShort { needed: _ } => 14,
         Fault::RankTooLow => 16,
+        Fault::BadOpeningsLength => 24,
+        Fault::UnorderedQuarters => 25,
     }
 }
 
@@ -47,5 +49,7 @@ pub fn fault_value(f: Fault) -> usize
         Fault::BadRecord { block } => block,
         Fault::BufferTooShort { needed } => needed,
         Fault::RankTooLow => 0,
+        Fault::BadOpeningsLength => 0,
+        Fault::UnorderedQuarters => 0,
     }
 }

@@ -36,7 +36,7 @@ pub struct Grant {
     pub bounds: Box,
 }
 
-// Document 01's faults 1 to 14, in this order, then document 02's 16.
+// Document 01's faults 1 to 14, in this order, then document 02's 16, 24 and 25.
 pub enum Fault {
     BadPool,
     Reversed,
@@ -53,6 +53,8 @@ pub enum Fault {
     BadRecord { block: usize },
     BufferTooShort { needed: usize },
     RankTooLow,
+    BadOpeningsLength,
+    UnorderedQuarters,
 }
 
 // What can be wrong in the values of a grant that is asked for: faults 3, 4, 2 and 16, in the order in which they answer.

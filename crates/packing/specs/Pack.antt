@@ -5,6 +5,9 @@
 --   pack answer         an accepted answer's first value is a: list, decide, match; of start, grant, revoke, load and the verdict on a block nothing
 --   packPair answer     its first value is a, its second is b: count
 --   packLength answer   its first value is b: write
+--   leftValues          how many values each half of b holds
+--   halves x y          two numbers in b, x in the high half
+--   packThree answer    its first value is a, its second and third are the halves of b: the comparison of two records
 -- A value is taken modulo what its bits hold. The values of every call fit them: the claim AnswersFit (claims/specs/PackedFits).
 -- Assumes nothing: these are definitions.
 use Prim.Native.Nat.{ℕ, _+_, _*_, _%_}
@@ -28,12 +31,15 @@ bValues = 4294967296
 unfoldable pub word : ℕ → ℕ → ℕ → ℕ
 word number a b = number % numberValues + 256 * (a % aValues) + 4294967296 * (b % bValues)
 
--- the first and the second value; 0 where there is none
+-- the first values; 0 where there is none
 abbrev pub firstOf : List ℕ → ℕ
 firstOf values = getD values 0 0
 
 abbrev pub secondOf : List ℕ → ℕ
 secondOf values = getD values 1 0
+
+abbrev pub thirdOf : List ℕ → ℕ
+thirdOf values = getD values 2 0
 
 -- fault 8's number: its value is a count
 abbrev pub listFault : ℕ
@@ -53,3 +59,13 @@ packPair (refused number values) = packRefusal number values
 abbrev pub packLength : Answer → ℕ
 packLength (accepted values) = word 0 0 (firstOf values)
 packLength (refused number values) = packRefusal number values
+
+abbrev pub leftValues : ℕ
+leftValues = 65536
+
+unfoldable pub halves : ℕ → ℕ → ℕ
+halves x y = 65536 * (x % leftValues) + y % leftValues
+
+abbrev pub packThree : Answer → ℕ
+packThree (accepted values) = word 0 (firstOf values) (halves (secondOf values) (thirdOf values))
+packThree (refused number values) = packRefusal number values

@@ -4,7 +4,8 @@ ghost use mathlib.Core.List.{[], _∷_, _++_};
 ghost use Rattle.model.specs.Grant.{grantValues};
 ghost use Rattle.model.specs.Fault.{faultNumber, faultValues};
 ghost use Rattle.model.specs.Answer.{outcomeAnswer, listedAnswer, decisionAnswer, countedAnswer, writtenAnswer, matchedAnswer};
-ghost use Rattle.packing.specs.Pack.{word, packRefusal, pack, packPair, packLength};
+ghost use Rattle.openings.specs.Compare.{comparedAnswer};
+ghost use Rattle.packing.specs.Pack.{word, packRefusal, pack, packPair, packLength, halves, packThree};
 ghost use Rattle.packing.specs.Decision.{PacksOut};
 use model::Counted;
 use model::Decision;
@@ -17,6 +18,7 @@ use model::Written;
 use model::faults::fault_number;
 use model::faults::fault_value;
 use model::kinds::kind_number;
+use openings::Compared;
 
 // How many values the bits of each part hold.
 const NUMBER_VALUES: u64 = 256;
@@ -24,6 +26,9 @@ const NUMBER_VALUES: u64 = 256;
 const A_VALUES: u64 = 16777216;
 
 pub const B_VALUES: u64 = 4294967296;
+
+// How many values each half of `b` holds.
+const LEFT_VALUES: u64 = 65536;
 
 // Bits 0 to 7 the number, 8 to 31 `a`, 32 to 63 `b`.
 pub fn word(number: u64, a: u64, b: u64) -> u64
@@ -87,6 +92,29 @@ pub fn pack_matched(matched: Matched) -> u64
         Matched::Equal => word(0, 0, 0),
         Matched::Differs(number) => word(0, number as u64, 0),
         Matched::Refused(fault) => pack_fault(fault),
+    }
+}
+
+// Two numbers in one: the first in the high half.
+fn halves(x: u64, y: u64) -> u64
+    ensures { λ r. ⌜ r ≡ halves x y ⌝ }
+{
+    65536 * (x % LEFT_VALUES) + y % LEFT_VALUES
+}
+
+pub fn pack_compared(compared: Compared) -> u64
+    ensures { λ r. ⌜ r ≡ packThree (comparedAnswer compared) ⌝ }
+{
+    match compared {
+        Compared::Entries {
+            agreeing,
+            left_in_door,
+            left_in_panel,
+        } => {
+            let left = halves(left_in_door as u64, left_in_panel as u64);
+            word(0, agreeing as u64, left)
+        }
+        Compared::Refused(fault) => pack_fault(fault),
     }
 }
 

@@ -1,9 +1,10 @@
-//! The cases that are tried: histories, files good and damaged, scrambled pools, all from a seed.
+//! The cases that are tried: histories, files good and damaged, records of openings, scrambled pools, all from a seed.
 
 pub mod case;
 pub mod damage;
 pub mod file_cases;
 pub mod histories;
+pub mod openings;
 pub mod random;
 pub mod scramble;
 pub mod styles;

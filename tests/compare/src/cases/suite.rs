@@ -5,6 +5,7 @@ use crate::cases::file_cases::{
     block_reads, byte_by_byte, checks_too_large, field_by_field, grants_in, lengths, onto_pools, sample, two_at_once,
 };
 use crate::cases::histories::history;
+use crate::cases::openings::{falling_quarters, full_records, long_records, small_records, too_many_entries, two_faults};
 use crate::cases::random::Random;
 use crate::cases::scramble::scrambled;
 use crate::cases::styles::Style;
@@ -12,6 +13,7 @@ use crate::cases::styles::Style;
 pub enum Family {
     History,
     File,
+    Openings,
     Scrambled,
 }
 
@@ -24,6 +26,7 @@ const FILE_SIZES: [usize; 9] = [63, 0, 1, 30, 31, 32, 62, 93, 100];
 pub fn round<E>(random: &mut Random, i: usize, visit: Visit<E>) -> Result<(), E> {
     histories(random, i, visit)?;
     files(random, i, visit)?;
+    openings(random, visit)?;
     for _ in 0..150 {
         visit(Family::Scrambled, &scrambled(random, 130))?;
     }
@@ -56,6 +59,14 @@ fn files<E>(random: &mut Random, i: usize, visit: Visit<E>) -> Result<(), E> {
     }
     for capacity in [n.saturating_sub(1), n, n + 1] {
         visit(Family::File, &onto_pools(&file, capacity.max(1)))?;
+    }
+    Ok(())
+}
+
+/// The small records come first: a difference is shown with the first that has it.
+fn openings<E>(random: &mut Random, visit: Visit<E>) -> Result<(), E> {
+    for cases in [small_records, falling_quarters, two_faults, long_records, full_records, too_many_entries] {
+        visit(Family::Openings, &cases(random))?;
     }
     Ok(())
 }

@@ -23,6 +23,7 @@ pub enum Answer {
     Written(usize),
     Matched(Option<u16>),
     Part { length: usize, start: usize },
+    Compared { agree: usize, left_in_door: usize, left_in_panel: usize },
     Refused(Fault),
 }
 
@@ -38,6 +39,7 @@ impl Answer {
             Answer::Written(length) => (0, 0, length),
             Answer::Matched(number) => (0, number.unwrap_or(0) as usize, 0),
             Answer::Part { length, start } => (0, length, start),
+            Answer::Compared { agree, left_in_door, left_in_panel } => (0, agree, left_in_door << 16 | left_in_panel),
             Answer::Refused(Fault { number: 8, value }) => (8, value as usize, 0),
             Answer::Refused(Fault { number, value }) => (number, 0, value as usize),
         };

@@ -19,6 +19,8 @@ pub enum Call {
     Match(Rc<[u8]>),
     Block(Rc<[u8]>, u64),
     BlockPart(Rc<[u8]>, u64),
+    /// The door record and the panel record; where both are one memory, it is lent twice.
+    CompareOpenings(Rc<[u8]>, Rc<[u8]>),
 }
 
 impl Call {
@@ -35,6 +37,7 @@ impl Call {
             Call::Match(_) => "match",
             Call::Block(..) => "block",
             Call::BlockPart(..) => "part",
+            Call::CompareOpenings(..) => "openings",
         }
     }
 }
@@ -57,6 +60,8 @@ impl fmt::Display for Call {
             Call::Write(doors, lent) => write!(f, " {} {} {lent}", doors.0, doors.1),
             Call::Load(file) | Call::Match(file) => write!(f, " {}", hex_of_bytes(file)),
             Call::Block(file, block) | Call::BlockPart(file, block) => write!(f, " {block} {}", hex_of_bytes(file)),
+            Call::CompareOpenings(door, panel) if Rc::ptr_eq(door, panel) => write!(f, " {} same", hex_of_bytes(door)),
+            Call::CompareOpenings(door, panel) => write!(f, " {} {}", hex_of_bytes(door), hex_of_bytes(panel)),
         }
     }
 }

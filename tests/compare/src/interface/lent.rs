@@ -1,6 +1,7 @@
 //! Memory that is lent to a call, and what it holds before.
 
 use crate::interface::call::Call;
+use std::rc::Rc;
 
 /// What a call is lent besides the pool.
 #[derive(Clone, Debug, PartialEq, Eq)]
@@ -11,12 +12,15 @@ pub enum Lent {
 }
 
 impl Lent {
-    /// The memory lent to a call, as it stands before it: no two neighbours alike.
+    /// The memory lent to a call, as it stands before it: no two neighbours alike, or the records that it compares, one behind the
+    /// other.
     pub fn before(call: &Call) -> Lent {
         match call {
             Call::List(_, lent) => Lent::Words(pattern(*lent)),
             Call::Decide(_) => Lent::Words(pattern(10)),
             Call::Write(_, lent) => Lent::Bytes(pattern(*lent).into_iter().map(|word| word as u8).collect()),
+            Call::CompareOpenings(door, panel) if Rc::ptr_eq(door, panel) => Lent::Bytes(door.to_vec()),
+            Call::CompareOpenings(door, panel) => Lent::Bytes([&door[..], panel].concat()),
             _ => Lent::Nothing,
         }
     }

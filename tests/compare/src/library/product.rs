@@ -7,6 +7,7 @@ use crate::interface::lent::Lent;
 use crate::library::guarded::Guarded;
 use locker_grants as lg;
 use locker_grants::{file, pool};
+use std::rc::Rc;
 
 /// What a call answered and left in the memory lent to it.
 pub struct Observed {
@@ -64,7 +65,9 @@ impl Product {
                 let count = pool::count(words)?;
                 Answer::Counted { live: count.live, free: count.free }
             }
-            Call::List(..) | Call::Decide(_) | Call::Write(..) => unreachable!("these are lent memory"),
+            Call::List(..) | Call::Decide(_) | Call::Write(..) | Call::CompareOpenings(..) => {
+                unreachable!("these are lent memory")
+            }
         })
     }
 
@@ -82,13 +85,23 @@ impl Product {
     fn make_with_bytes(&self, call: &Call, lent: &mut [u8]) -> Result<Answer, lg::Fault> {
         match call {
             Call::Write(doors, _) => pool::write(self.pool.contents(), *doors, lent).map(Answer::Written),
-            _ => unreachable!("only write is lent bytes"),
+            Call::CompareOpenings(door, panel) => {
+                let (door_record, behind) = lent.split_at(door.len());
+                let panel_record = if Rc::ptr_eq(door, panel) { door_record } else { behind };
+                lg::compare_openings(door_record, panel_record).map(compared)
+            }
+            _ => unreachable!("only write and the comparison of records are lent bytes"),
         }
     }
 }
 
 fn done(_: ()) -> Answer {
     Answer::Done
+}
+
+fn compared(numbers: lg::Comparison) -> Answer {
+    let lg::Comparison { agree, left_in_door, left_in_panel } = numbers;
+    Answer::Compared { agree, left_in_door, left_in_panel }
 }
 
 fn bounds_to(bounds: &Bounds) -> lg::Bounds {

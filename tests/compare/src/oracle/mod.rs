@@ -1,4 +1,4 @@
-//! What document 01 says of every call, on plain lists and on any words: shares nothing with the library.
+//! What documents 01 and 02 say of every call, on plain lists and on any words: shares nothing with the library.
 
 pub mod arguments;
 pub mod block_read;
@@ -8,6 +8,7 @@ pub mod honest;
 pub mod judge;
 pub mod layout;
 pub mod marked;
+pub mod openings;
 pub mod overlap;
 pub mod plain;
 pub mod scrambled;

@@ -1,4 +1,4 @@
-//! The plain implementation: what document 01 fixes of a call's answer and of all memory after it, on any pool.
+//! The plain implementation: what documents 01 and 02 fix of a call's answer and of all memory after it, on any pool.
 
 use crate::interface::answer::{fault, Answer, Fault};
 use crate::interface::call::Call;
@@ -9,6 +9,7 @@ use crate::oracle::block_read;
 use crate::oracle::honest::Honest;
 use crate::oracle::judge::{self, judge, Contents};
 use crate::oracle::layout::capacity_of;
+use crate::oracle::openings;
 use crate::oracle::scrambled;
 use crate::oracle::sound::grants_in;
 use crate::oracle::wrong::Wrong;
@@ -97,6 +98,9 @@ impl Plain {
         if let Call::BlockPart(file, block) = call {
             let (length, start) = block_read::part(file, *block, self.wrong);
             return Ok(Some(Answer::Part { length, start }));
+        }
+        if let Call::CompareOpenings(door, panel) = call {
+            return openings::compared(door, panel, self.wrong).map(Some);
         }
         if let (Call::Match(file), Wrong::FileBeforePool) = (call, self.wrong) {
             judge(file, self.wrong).map_err(file_cause)?;

@@ -6,6 +6,7 @@ use crate::library::product::{Observed, Product};
 use crate::oracle::plain::{Expected, Plain};
 use crate::oracle::sound::is_sound;
 use crate::oracle::wrong::Wrong;
+use crate::report::promises;
 use std::collections::BTreeMap;
 
 /// Where the two first differ, and how.
@@ -32,7 +33,9 @@ pub fn run(case: &Case, wrong: Wrong, tally: &mut Tally) -> Result<(), Differenc
     for (at, call) in case.calls.iter().enumerate() {
         let expected = plain.step(call);
         let observed = product.make(call);
-        if let Some(what) = difference(&expected, &observed).or_else(|| pool_difference(&expected, &plain, &product)) {
+        let broken = promises::broken(call, observed.answer, &mut product);
+        let differs = || difference(&expected, &observed).or_else(|| pool_difference(&expected, &plain, &product));
+        if let Some(what) = broken.or_else(differs) {
             return Err(Difference { at, what });
         }
         if expected.pool_is_free {

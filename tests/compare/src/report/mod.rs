@@ -1,6 +1,7 @@
 //! The two held against each other: runs, the shortest history of a difference, what must be reached, the trace.
 
 pub mod compare;
+pub mod promises;
 pub mod required;
 pub mod self_test;
 pub mod shrink;

@@ -1,5 +1,6 @@
 //! The refusals that a run must have seen: each fault of each call by the documents' order line, 16 together with each other fault of
-//! grant, each cause of 9 in each walk, each cause of 11, 12 and 13 in each block that can have it.
+//! grant, each cause of 9 in each walk, each cause of 11, 12 and 13 in each block that can have it, each cause of 24 and 25 in either
+//! record of openings.
 
 use std::collections::BTreeMap;
 
@@ -49,6 +50,7 @@ pub fn missing(reached: &BTreeMap<String, usize>) -> Vec<String> {
     }
     required.push("load 6".to_string());
     required.extend(of_block_read());
+    required.extend(of_openings());
     required.retain(|refusal| !reached.contains_key(refusal));
     required
 }
@@ -86,5 +88,18 @@ fn of_block_read() -> Vec<String> {
         required.extend(causes.iter().map(|cause| format!("block {cause}, {place}")));
     }
     required.extend(RECORD_BLOCKS.iter().map(|place| format!("block 11 record count, {place}")));
+    required
+}
+
+fn of_openings() -> Vec<String> {
+    let mut required = Vec::new();
+    for record in ["the door record", "the panel record"] {
+        for cause in ["not whole entries", "too many entries"] {
+            let beside = ["", ", before its own 25", ", before 25 in the other"];
+            required.extend(beside.iter().map(|beside| format!("openings 24 {cause}, {record}{beside}")));
+        }
+        let places = ["the second entry", "a middle entry", "the last entry"];
+        required.extend(places.iter().map(|place| format!("openings 25 {place}, {record}")));
+    }
     required
 }

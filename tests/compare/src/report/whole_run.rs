@@ -21,6 +21,7 @@ const DECISIONS_PER_TIE: usize = 3;
 pub struct Counts {
     tally: Tally,
     files: usize,
+    pairs: usize,
     scrambled: usize,
 }
 
@@ -35,6 +36,7 @@ impl Counts {
         match family {
             Family::History => {}
             Family::File => self.files += case.calls.iter().filter(|call| matches!(call, Call::Load(_))).count(),
+            Family::Openings => self.pairs += case.calls.len(),
             Family::Scrambled => self.scrambled += 1,
         }
         run(case, Wrong::Nothing, &mut self.tally).map_err(|difference| {
@@ -80,10 +82,11 @@ pub fn compare(seed: u64, rounds: usize) -> bool {
 
 fn summary(seed: u64, counts: &Counts, uncaught: usize) -> String {
     format!(
-        "compare: seed {seed}: {} calls, {} files and {} scrambled pools as documents 01 and 02 have them; {} faults reached by {} causes; \
-         {} decisions, {} at equal rank; {} of {} wrong versions caught",
+        "compare: seed {seed}: {} calls, {} files, {} pairs of records and {} scrambled pools as documents 01 and 02 have them; \
+         {} faults reached by {} causes; {} decisions, {} at equal rank; {} of {} wrong versions caught",
         counts.tally.calls,
         counts.files,
+        counts.pairs,
         counts.scrambled,
         counts.faults(),
         counts.tally.reached.len(),

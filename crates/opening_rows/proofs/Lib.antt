@@ -1,0 +1,2 @@
+-- The definition of an opening's line, tried.
+pub mod OpeningCases

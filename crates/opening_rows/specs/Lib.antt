@@ -1,0 +1,2 @@
+-- An opening as a line of text.
+pub mod OpeningRow
