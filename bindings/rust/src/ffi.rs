@@ -46,10 +46,5 @@ extern "C" {
 
     pub fn lg_block_part(file: *const u8, file_bytes: usize, block: u64) -> u64;
 
-    pub fn lg_compare_openings(
-        door_record: *const u8,
-        door_bytes: usize,
-        panel_record: *const u8,
-        panel_bytes: usize,
-    ) -> u64;
+    pub fn lg_compare_openings(door_record: *const u8, door_bytes: usize, panel_record: *const u8, panel_bytes: usize) -> u64;
 }

@@ -51,9 +51,8 @@ pub struct Comparison {
 /// ```
 pub fn compare_openings(door_record: &[u8], panel_record: &[u8]) -> Result<Comparison, Fault> {
     // SAFETY: each pointer and the length behind it are one slice's, borrowed for the call.
-    let word = unsafe {
-        ffi::lg_compare_openings(door_record.as_ptr(), door_record.len(), panel_record.as_ptr(), panel_record.len())
-    };
+    let word =
+        unsafe { ffi::lg_compare_openings(door_record.as_ptr(), door_record.len(), panel_record.as_ptr(), panel_record.len()) };
     unpack(word).map(|values| Comparison {
         agree: values.a as usize,
         left_in_door: (values.b >> 16) as usize,

@@ -1,4 +1,6 @@
 -- `pack_compared` meets its contract: a case for each variant. Assumes nothing.
+use mathlib.Core.Path.{ap, _∙_}
+use Rattle.packing.specs.Pack.{word}
 use borrow.Author.Needs.{needs}
 use Rattle.packing.proofs.pack_compared.Statement.{statement}
 use Rattle.packing.proofs.pack_compared.Tie as tie
@@ -19,7 +21,7 @@ pack-fault-requires : tie.Need-pack-fault-requires
 pack-fault-requires c κs = search needs
 
 returns : tie.Need-returns
-returns c = rw (c .before .before .before .compared .given .1, ← c .before .halves .ensures) (c .word .ensures)
+returns c = rw (c .before .before .before .compared .given .1) (c .word .ensures ∙ ap (word 0 _) (c .before .halves .ensures))
 
 returns-2 : tie.Need-returns-2
 returns-2 c = rw (c .before .before .compared2 .given .1) (c .pack-fault .ensures)
