@@ -2,7 +2,6 @@
 --   count-nil, count-here, count-other         by the first of the list: one more if it is the number, and as often as behind it if not
 --   count-append                               two lists in a row
 --   count-none                                 a number that equals none of the list stands there 0 times
---   none-nil                                   a list in which every number stands 0 times is empty
 --   count-put, count-perm, count-sortBy        the order does not matter
 --   without-nil, without-here, without-other   by the first of the list: it goes if it is the number, and stays if not
 --   without-twice, without-swap                a number taken out twice, and two numbers in either order
@@ -61,10 +60,6 @@ count-perm x (perm-more {x = y} {xs = xs} {ys = ys} p r) =
 
 pub count-sortBy : (key : ℕ → ℕ) (x : ℕ) (xs : List ℕ) → count x (sortBy key xs) ≡ count x xs
 count-sortBy key x xs = sym (count-perm x (perm-sortBy key xs))
-
-pub none-nil : (xs : List ℕ) → ((x : ℕ) → count x xs ≡ 0) → xs ≡ []
-none-nil [] f = refl
-none-nil (x ∷ xs) f = absurd (omega (arith, f x, count-here x xs))
 
 pub without-here : (x : ℕ) (xs : List ℕ) → without x (x ∷ xs) ≡ without x xs
 unfolding filter

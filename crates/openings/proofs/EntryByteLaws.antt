@@ -76,9 +76,6 @@ module _ (r : List ℕ) (i : ℕ) (b : Below byteValues r) (h : i < entriesIn r)
   low-bytes : low ≡ at 4 * 16777216 + at 5 * 65536 + at 6 * 256 + at 7
   low-bytes = bigEndian-four r (entryBytes * i + 4) (omega arith) ∙ simp add-assoc
 
-  high-lt : high < 4294967296
-  high-lt = omega (arith, high-bytes, inside 0 (lit< tt), inside 1 (lit< tt), inside 2 (lit< tt), inside 3 (lit< tt))
-
   low-lt : low < 4294967296
   low-lt = omega (arith, low-bytes, inside 4 (lit< tt), inside 5 (lit< tt), inside 6 (lit< tt), inside 7 (lit< tt))
 
