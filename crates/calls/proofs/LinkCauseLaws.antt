@@ -1,5 +1,6 @@
 -- Fault 9 of the walks that stop (specs/Causes) and of document 01's links (specs/LinkCauses) is one fault, on any words.
 --   isBroken-links        of a search; hitsOf-links: where it is not broken, its hits are those among the links
+--   pointBroken-links     of decide's search
 --   grantBroken-links     of grant
 --   revokeBroken-links    of revoke
 -- Assumes nothing.
@@ -11,10 +12,11 @@ use lib.Dec.{eqb·suc-zero}
 use lib.ListN.{length, getD}
 use native.Mathlib.Omega.{arith}
 use Rattle.lists.specs.Tests.{filter}
+use Rattle.model.specs.Box.{pointBox}
 use Rattle.model.specs.Call.{Request}
 use Rattle.geometry.specs.Levels.{levels}
 use Rattle.geometry.specs.Region.{Region}
-use Rattle.geometry.specs.SearchRange.{rangeOfNumber}
+use Rattle.geometry.specs.SearchRange.{rangeOfBox, rangeOfNumber}
 use Rattle.pool.specs.Capacity.{capacityOf}
 use Rattle.adt.specs.Search.{Spot, Search, broken, going, search}
 use Rattle.adt.specs.Insert.{InsertionWalk}
@@ -25,9 +27,9 @@ use Rattle.adt.specs.Links.{Link, brokenBy, searchLinks, isHit, hitsAmong}
 use Rattle.adt.proofs.SearchLinks.{Searched, search-broken-iff, search-going}
 use Rattle.adt.proofs.InsertionLinks.{brokenInsertion, descend-broken, freeBroken-links}
 use Rattle.adt.proofs.RemovalLinks.{brokenRemoval, terminalFrom-broken}
-use Rattle.calls.specs.Walks.{isBroken, hitsOf, removalOf}
+use Rattle.calls.specs.Walks.{pointSearch, isBroken, hitsOf, removalOf}
 use Rattle.calls.specs.Causes.{numberLive, insertionBroken, removalBroken, grantBroken, revokeBroken}
-use Rattle.calls.specs.LinkCauses.{searchMeets9, searchHits, grantMeets9, removalMeets9, revokeMeets9}
+use Rattle.calls.specs.LinkCauses.{searchMeets9, pointMeets9, searchHits, grantMeets9, removalMeets9, revokeMeets9}
 
 module _ (w : List ℕ) (q : Region) where
   pub isBroken-links : isBroken (search w q) ≡ searchMeets9 w q
@@ -45,6 +47,10 @@ module _ (w : List ℕ) (q : Region) where
       go : (s : Search) → search w q ≡ s → isBroken s ≡ false → hitsOf s ≡ hitsAmong w q (searchLinks w q)
       go broken e whole = absurd (true≢false whole)
       go (going met hits first) e whole = search-going w q met hits first e .found
+
+pub pointBroken-links : (w : List ℕ) (staff door quarter : ℕ) → isBroken (pointSearch w staff door quarter) ≡ pointMeets9 w staff door quarter
+unfolding pointMeets9
+pointBroken-links w staff door quarter = isBroken-links w (rangeOfBox (pointBox staff door quarter))
 
 insertionBroken-same : (way : InsertionWalk) → insertionBroken way ≡ brokenInsertion way
 insertionBroken-same insert.broken = refl

@@ -1,6 +1,7 @@
 -- Fault 9 of each call as document 01 says it, from the links that its walks go through (adt/specs/Links), and the hits among them.
 -- Demand 1 cites these; the calls cite the walks that stop. Nothing here is taken from those: `numberLive` only says that there are hits.
 --   searchMeets9 w q, searchHits w q   of a search for the range q
+--   pointMeets9 w staff door quarter   of decide's search
 --   freeMeets9 w                       the free head or its cell's left link, as grant reads them, is above C
 --   grantMeets9 w r                    grant: when the number isn't found, also the way down, the free head and its cell's left link
 --   revokeMeets9 w n                   revoke: when it is found, also the removal walk from the first hit, at its own level
@@ -10,10 +11,11 @@ use mathlib.Core.Bool.{Bool, false, not, _&&_, _||_}
 use mathlib.Core.List.{List, [], _∷_}
 use lib.Dec.{ltb}
 use Rattle.lists.specs.Tests.{filter, any}
+use Rattle.model.specs.Box.{pointBox}
 use Rattle.model.specs.Call.{Request, requested}
 use Rattle.geometry.specs.Region.{Region}
 use Rattle.geometry.specs.Point.{pointOf}
-use Rattle.geometry.specs.SearchRange.{rangeOfNumber}
+use Rattle.geometry.specs.SearchRange.{rangeOfBox, rangeOfNumber}
 use Rattle.pool.specs.Capacity.{capacityOf}
 use Rattle.adt.specs.Links.{Link, brokenBy, searchLinks, insertionLinks, removalLinks, freeLinks, isHit, hitsAmong}
 use Rattle.calls.specs.Causes.{numberLive}
@@ -23,6 +25,9 @@ searchMeets9 w q = brokenBy (capacityOf w) 0 (searchLinks w q)
 
 unfoldable pub searchHits : List ℕ → Region → List ℕ
 searchHits w q = hitsAmong w q (searchLinks w q)
+
+unfoldable pub pointMeets9 : List ℕ → ℕ → ℕ → ℕ → Bool
+pointMeets9 w staff door quarter = searchMeets9 w (rangeOfBox (pointBox staff door quarter))
 
 abbrev pub freeMeets9 : List ℕ → Bool
 freeMeets9 w = any (ltb (capacityOf w)) (freeLinks w)

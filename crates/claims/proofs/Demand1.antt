@@ -14,7 +14,6 @@ use Rattle.model.specs.declared.Kind.the-variants as kind
 use Rattle.model.specs.declared.Grant.{Grant}
 use Rattle.model.specs.declared.Matched.the-variants.{Differs}
 use Rattle.model.specs.Interval.{Interval}
-use Rattle.model.specs.Box.{pointBox}
 use Rattle.model.specs.Grant.{sameGrant}
 use Rattle.model.specs.Answer.{Answer, accepted, decisionAnswer, matchedAnswer}
 use Rattle.model.specs.Decide.{decidingOf, decisionOf, decideAmong}
@@ -26,11 +25,11 @@ use Rattle.geometry.specs.SearchRange.{rangeOfBox, rangeOfDoors, rangeOfNumber,
 use Rattle.grants_file.specs.File.{doorsIn}
 use Rattle.block_read.specs.BlockRead.{readCauses, blockCall}
 use Rattle.openings.specs.Compare.{openingsOrder, compareCall}
-use Rattle.calls.specs.LinkCauses.{searchMeets9, searchHits, grantMeets9, revokeMeets9}
+use Rattle.calls.specs.LinkCauses.{searchMeets9, pointMeets9, searchHits, grantMeets9, revokeMeets9}
 use Rattle.calls.specs.Order.{startOrder, grantOrder, revokeOrder, listOrder, lookOrder, writeOrder, loadOrder, matchOrder}
 use Rattle.calls.specs.Calls.{startCall, grantCall, revokeCall, listCall, decideCall, countCall}
 use Rattle.calls.specs.FileCalls.{writeCall, loadCall, firstDifference, matchCall}
-use Rattle.calls.proofs.LinkCauseLaws.{isBroken-links}
+use Rattle.calls.proofs.LinkCauseLaws.{isBroken-links, pointBroken-links}
 use Rattle.calls.proofs.OrderLaws.{grantOrder-links, revokeOrder-links, listOrder-links, writeOrder-links}
 use Rattle.claims.specs.Claims.{MadePools, Demand1}
 use Rattle.claims.proofs.KeepsLaws.{made-pools}
@@ -86,11 +85,11 @@ unfolding listCall
 list-judged w q lent = judged-by _ _ w lent _ (listOrder-links w q lent) (_, refl)
 
 pub decide-judged : (w : List ℕ) (staff door quarter : ℕ)
-    → Judged (lookOrder w (searchMeets9 w (rangeOfBox (pointBox staff door quarter)))) w [] (decideCall w staff door quarter)
+    → Judged (lookOrder w (pointMeets9 w staff door quarter)) w [] (decideCall w staff door quarter)
 unfolding decideCall
 decide-judged w staff door quarter =
     judged-by _ _ w [] _
-    (ap (λ (broken : Bool). firstFault (lookOrder w broken)) (isBroken-links w (rangeOfBox (pointBox staff door quarter))))
+    (ap (λ (broken : Bool). firstFault (lookOrder w broken)) (pointBroken-links w staff door quarter))
     (decideAmong-taken _)
 
 pub count-judged : (w : List ℕ) → Judged (lookOrder w (searchMeets9 w rangeOfAll)) w [] (countCall w)

@@ -9,13 +9,12 @@
 use Prim.Native.Nat.{ℕ}
 use mathlib.Core.List.{List, [], _∷_, _++_}
 use Rattle.model.specs.declared.Box.{Box}
-use Rattle.model.specs.Box.{pointBox}
 use Rattle.model.specs.Interval.{Interval}
 use Rattle.model.specs.Call.{Request}
 use Rattle.geometry.specs.declared.Side.the-variants.{Left, Right}
 use Rattle.geometry.specs.SearchRange.{rangeOfBox, rangeOfDoors, rangeOfNumber, rangeOfAll}
 use Rattle.grants_file.specs.File.{fileOf}
-use Rattle.calls.specs.LinkCauses.{searchMeets9, grantMeets9, revokeMeets9}
+use Rattle.calls.specs.LinkCauses.{searchMeets9, pointMeets9, grantMeets9, revokeMeets9}
 use Rattle.calls.specs.Calls.{grantCall, revokeCall, listCall, decideCall, countCall}
 use Rattle.calls.specs.FileCalls.{writeCall, matchCall}
 use Rattle.claims.proofs.Cases.{Case, box, one, test, responses}
@@ -34,7 +33,7 @@ listed w b lent = test (searchMeets9 w (rangeOfBox b)) ++ responses (listCall w 
 
 abbrev decided : List ℕ → ℕ → ℕ → ℕ → List ℕ
 decided w staff door quarter =
-    test (searchMeets9 w (rangeOfBox (pointBox staff door quarter))) ++ responses (decideCall w staff door quarter .answer)
+    test (pointMeets9 w staff door quarter) ++ responses (decideCall w staff door quarter .answer)
 
 abbrev counted : List ℕ → List ℕ
 counted w = test (searchMeets9 w rangeOfAll) ++ responses (countCall w .answer)

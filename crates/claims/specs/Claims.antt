@@ -25,7 +25,6 @@ use Rattle.model.specs.declared.Box.{Box}
 use Rattle.model.specs.declared.Grant.{Grant}
 use Rattle.model.specs.declared.Fault.the-variants.{BadPool, BadChecksum}
 use Rattle.model.specs.Interval.{Interval}
-use Rattle.model.specs.Box.{pointBox}
 use Rattle.model.specs.Overlap.{Overlap}
 use Rattle.model.specs.Answer.{accepted, refusal}
 use Rattle.model.specs.Call.{Request, Call}
@@ -43,7 +42,7 @@ use Rattle.grants_file.specs.File.{chunk, fileOf, blocksIn, doorsIn, grantsIn}
 use Rattle.block_read.specs.BlockRead.{readCauses, partOf, blockCall}
 use Rattle.grants_file.specs.FileSets.{Accepted, FileSet, Ordering}
 use Rattle.openings.specs.Compare.{openingsOrder, compareCall}
-use Rattle.calls.specs.LinkCauses.{searchMeets9, searchHits, grantMeets9, revokeMeets9}
+use Rattle.calls.specs.LinkCauses.{searchMeets9, pointMeets9, searchHits, grantMeets9, revokeMeets9}
 use Rattle.calls.specs.Order.{startOrder, grantOrder, revokeOrder, listOrder, lookOrder, writeOrder, loadOrder, matchOrder}
 use Rattle.calls.specs.Calls.{startCall, grantCall, revokeCall, listCall, decideCall, countCall, wordsStep}
 use Rattle.calls.specs.FileCalls.{writeCall, grantAll, loadCall, matchCall}
@@ -118,7 +117,7 @@ pub record Demand1 : Type 0 where
   pub list : (w : List ℕ) (q : Box) (lent : List ℕ)
       → Judged (listOrder w q lent (searchMeets9 w (rangeOfBox q)) (searchHits w (rangeOfBox q))) w lent (listCall w q lent)
   pub decide : (w : List ℕ) (staff door quarter : ℕ)
-      → Judged (lookOrder w (searchMeets9 w (rangeOfBox (pointBox staff door quarter)))) w [] (decideCall w staff door quarter)
+      → Judged (lookOrder w (pointMeets9 w staff door quarter)) w [] (decideCall w staff door quarter)
   pub count : (w : List ℕ) → Judged (lookOrder w (searchMeets9 w rangeOfAll)) w [] (countCall w)
   pub write : (w : List ℕ) (doors : Interval) (lent : List ℕ)
       → Judged (writeOrder w doors lent (searchMeets9 w (rangeOfDoors doors)) (searchHits w (rangeOfDoors doors))) w lent (writeCall w doors lent)

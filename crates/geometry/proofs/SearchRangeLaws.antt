@@ -1,6 +1,5 @@
 -- What the ranges of specs/SearchRange hit: exactly what document 01 asks for, whatever numbers are asked ("Boxes as points").
---   rangeOf b n            the range of a box and of numbers; every search's range is one
---   hits-overlap           a grant's point lies in it exactly if its box overlaps b and its number lies in n
+--   inside-pairs           a grant's point lies in a range by three pairs of axes, one for each of its ranges, and the number's axis
 --   box-hits, box-hits-iff   list and decide: the grants that overlap the box, as tests and as condition 5
 --   doors-hits             write and match: the grants that touch the doors
 --   number-hits            grant and revoke: the grant of that number
@@ -11,57 +10,29 @@
 use Prim.Native.Nat.{ℕ, zero, suc, _<_, _≤_, zero-le}
 use mathlib.Core.Logic.{_↔_}
 use mathlib.Core.Path.{_≡_, refl, _∙_}
-use mathlib.Core.Bool.{true, _&&_, and-eq-true-iff, and-true}
+use mathlib.Core.Bool.{Bool, true, _&&_, and-eq-true-iff, and-true}
 use mathlib.Core.List.{List, [], _∷_}
 use native.Mathlib.Omega.{arith}
-use lib.Dec.{T, eqb, lit<}
+use lib.Dec.{T, leb, eqb, lit<}
 use lib.ListN.{length, getD}
-use borrow.Author.Tests.{eqb-true, eq-eqb}
+use borrow.Author.Tests.{eqb-true, eq-eqb, le-leb}
 use Rattle.lists.specs.Ranges.{countFrom}
-use Rattle.lists.proofs.TestLaws.{T-iff, tests-agree, both-le, le-both}
+use Rattle.lists.proofs.TestLaws.{tests-agree, both-le, le-both}
 use Rattle.lists.proofs.ElementLaws.{mem-getD}
 use Rattle.model.specs.declared.Box.{Box}
 use Rattle.model.specs.declared.Grant.{Grant}
-use Rattle.model.specs.Interval.{Interval, holds}
-use Rattle.model.specs.Box.{staffOf, doorsOf, quartersOf, boxValues}
-use Rattle.model.specs.Overlap.{OverlapOn, Overlap, overlapOn, overlaps}
+use Rattle.model.specs.Interval.{Interval}
+use Rattle.model.specs.Box.{boxValues}
+use Rattle.model.specs.Overlap.{Overlap, overlaps}
 use Rattle.model.specs.Grant.{touches}
 use Rattle.model.specs.Values.{GrantFits}
 use Rattle.model.proofs.OverlapLaws.{overlaps-iff}
 use Rattle.geometry.specs.Axis.{axes}
 use Rattle.geometry.specs.Width.{topOf}
-use Rattle.geometry.specs.Region.{Region, range, rootRegion, low, high}
+use Rattle.geometry.specs.Region.{Region, range, free, rootRegion, low, high}
 use Rattle.geometry.specs.Point.{pointOf, inside}
 use Rattle.geometry.specs.SearchRange.{rangeOfBox, rangeOfDoors, rangeOfNumber, rangeOfAll, OneSided}
 use Rattle.geometry.proofs.RegionLaws.{Spans, inside-ends, ends-inside}
-
--- all of an axis, as a range
-abbrev whole : ℕ → Interval
-whole a = record { from = 0; to = topOf a }
-
--- the box of three ranges
-abbrev boxOf : Interval → Interval → Interval → Box
-boxOf s d q =
-    record {
-      «staff_from» = s .from;
-      «staff_to» = s .to;
-      «door_from» = d .from;
-      «door_to» = d .to;
-      «quarter_from» = q .from;
-      «quarter_to» = q .to;
-    }
-
--- a box's range with the number's row left to say
-abbrev rangeOf : Box → Interval → Region
-rangeOf b n =
-    range 0 (b .«staff_to»)
-    ∷ range 0 (b .«door_to»)
-    ∷ range 0 (b .«quarter_to»)
-    ∷ range (b .«staff_from») (topOf 3)
-    ∷ range (b .«door_from») (topOf 4)
-    ∷ range (b .«quarter_from») (topOf 5)
-    ∷ range (n .from) (n .to)
-    ∷ []
 
 -- what holds on each axis holds on every one
 every-axis : (P : ℕ → Type 0) → P 0 → P 1 → P 2 → P 3 → P 4 → P 5 → P 6 → (a : ℕ) → a < axes → P a
@@ -74,99 +45,147 @@ every-axis P p₀ p₁ p₂ p₃ p₄ p₅ p₆ (suc (suc (suc (suc (suc zero)))
 every-axis P p₀ p₁ p₂ p₃ p₄ p₅ p₆ (suc (suc (suc (suc (suc (suc zero)))))) h = p₆
 every-axis P p₀ p₁ p₂ p₃ p₄ p₅ p₆ (suc (suc (suc (suc (suc (suc (suc a))))))) h = absurd (omega arith)
 
+-- the coordinate x lies in the range on the axis a
+abbrev lies : Region → ℕ → ℕ → Bool
+lies q a x = leb (low q a) x && leb x (high q a)
+
+-- a from lies in the range on the axis i, and its to on the axis j
+abbrev pairLies : Region → ℕ → ℕ → ℕ → ℕ → Bool
+pairLies q i j from to = lies q i from && lies q j to
+
+module _ (q : Region) (a x : ℕ) where
+  spans-lies : Spans q a x → lies q a x ≡ true
+  spans-lies h = le-both (low q a) x x (high q a) (h .above) (h .below)
+
+  lies-spans : lies q a x ≡ true → Spans q a x
+  lies-spans e = let both = both-le (low q a) x x (high q a) e in record { above = both .0; below = both .1 }
+
+  free-lies : getD q a [] ≡ free a → x ≤ topOf a → lies q a x ≡ true
+  free-lies e h = rw e (le-both 0 x x (topOf a) zero-le h)
+
+-- four tests in one pass only if each does
+and-four : (t u v w : Bool) → (t && u && v && w) ≡ true → (t ≡ true) × (u ≡ true) × (v ≡ true) × (w ≡ true)
+and-four t u v w e =
+    let last = and-eq-true-iff (t && u && v) w .0 e in
+    let third = and-eq-true-iff (t && u) v .0 (last .0) in
+    let first = and-eq-true-iff t u .0 (third .0) in
+    (first .0, first .1, third .1, last .1)
+
 -- a range of the box on its two axes: i has the froms, j the tos
-module _ (r : Region) (i j : ℕ) (mine asked : Interval) (froms : getD r i [] ≡ range 0 (asked .to)) (tos : getD r j [] ≡ range (asked .from) (topOf j)) where
-  spans-overlapOn : Spans r i (mine .from) → Spans r j (mine .to) → OverlapOn mine asked
-  spans-overlapOn h k = record { starts = rw froms at (h .below); ends = rw tos at (k .above) }
+module _ (q : Region) (i j from to : ℕ) (fits : to ≤ topOf j) where
+  free-pair : getD q i [] ≡ free i → getD q j [] ≡ free j → from ≤ topOf i → pairLies q i j from to ≡ true
+  free-pair froms tos h = rw (free-lies q i from froms h) (free-lies q j to tos fits)
 
-  overlapOn-from : OverlapOn mine asked → Spans r i (mine .from)
-  overlapOn-from o = record { above = rw froms zero-le; below = rw froms (o .starts) }
+  closed-pair : (asked-from asked-to : ℕ) → getD q i [] ≡ range 0 asked-to → getD q j [] ≡ range asked-from (topOf j)
+      → pairLies q i j from to ≡ (leb from asked-to && leb asked-from to)
+  closed-pair asked-from asked-to froms tos =
+      rw (froms, tos, le-leb 0 from zero-le, le-leb to (topOf j) fits, and-true (leb asked-from to))
 
-  overlapOn-to : mine .to ≤ topOf j → OverlapOn mine asked → Spans r j (mine .to)
-  overlapOn-to fits o = record { above = rw tos (o .ends); below = rw tos fits }
+module _ (g : Grant) where
+  abbrev b : Box
+  b = g .bounds
 
--- the whole of an axis asks for nothing
-whole-overlapOn : (mine : Interval) (a : ℕ) → mine .from ≤ topOf a → overlapOn mine (whole a) ≡ true
-whole-overlapOn mine a h = le-both (mine .from) (topOf a) 0 (mine .to) h zero-le
+  abbrev staffLies : Region → Bool
+  staffLies q = pairLies q 0 3 (b .«staff_from») (b .«staff_to»)
+
+  abbrev doorsLie : Region → Bool
+  doorsLie q = pairLies q 1 4 (b .«door_from») (b .«door_to»)
+
+  abbrev quartersLie : Region → Bool
+  quartersLie q = pairLies q 2 5 (b .«quarter_from») (b .«quarter_to»)
+
+  -- a grant's point lies in a range exactly if its three ranges do, each on its two axes, and its number
+  inside-pairs : (q : Region) → inside q (pointOf g) ≡ (staffLies q && doorsLie q && quartersLie q && lies q 6 (g .number))
+  unfolding pointOf
+  inside-pairs q = tests-agree (inside q (pointOf g)) _ found hit
+    where
+      found : inside q (pointOf g) ≡ true → (staffLies q && doorsLie q && quartersLie q && lies q 6 (g .number)) ≡ true
+      found e =
+          let on = inside-ends q (pointOf g) e in
+          rw (
+            spans-lies q 0 _ (on 0 (lit< tt)),
+            spans-lies q 3 _ (on 3 (lit< tt)),
+            spans-lies q 1 _ (on 1 (lit< tt)),
+            spans-lies q 4 _ (on 4 (lit< tt)),
+            spans-lies q 2 _ (on 2 (lit< tt)),
+            spans-lies q 5 _ (on 5 (lit< tt)),
+          )
+          (spans-lies q 6 _ (on 6 (lit< tt)))
+
+      hit : (staffLies q && doorsLie q && quartersLie q && lies q 6 (g .number)) ≡ true → inside q (pointOf g) ≡ true
+      hit e =
+          let all = and-four (staffLies q) (doorsLie q) (quartersLie q) (lies q 6 (g .number)) e in
+          let s = and-eq-true-iff (lies q 0 (b .«staff_from»)) (lies q 3 (b .«staff_to»)) .0 (all .0) in
+          let d = and-eq-true-iff (lies q 1 (b .«door_from»)) (lies q 4 (b .«door_to»)) .0 (all .1) in
+          let t = and-eq-true-iff (lies q 2 (b .«quarter_from»)) (lies q 5 (b .«quarter_to»)) .0 (all .2) in
+          ends-inside q (pointOf g)
+          (every-axis (λ a. Spans q a (getD (pointOf g) a 0))
+          (lies-spans q 0 _ (s .0)) (lies-spans q 1 _ (d .0)) (lies-spans q 2 _ (t .0))
+          (lies-spans q 3 _ (s .1)) (lies-spans q 4 _ (d .1)) (lies-spans q 5 _ (t .1))
+          (lies-spans q 6 _ (all .3)))
 
 module _ (g : Grant) (fits : GrantFits g) where
   value-fits : (i a : ℕ) → i < length (boxValues (g .bounds)) → getD (boxValues (g .bounds)) i 0 ≤ topOf a
   value-fits i a h = omega (arith, fits .bounds _ (mem-getD (boxValues (g .bounds)) i 0 h))
 
-  pub hits-overlap : (b : Box) (n : Interval) → inside (rangeOf b n) (pointOf g) ≡ (overlaps (g .bounds) b && holds n (g .number))
-  unfolding pointOf
-  hits-overlap b n = tests-agree (inside r (pointOf g)) (overlaps (g .bounds) b && holds n (g .number)) found hit
-    where
-      r : Region
-      r = rangeOf b n
+  number-fits : g .number ≤ topOf 6
+  number-fits = omega (arith, fits .number)
 
-      x : ℕ
-      x = g .number
+  staff-free : (q : Region) → getD q 0 [] ≡ free 0 → getD q 3 [] ≡ free 3 → staffLies g q ≡ true
+  staff-free q froms tos = free-pair q 0 3 _ _ (value-fits 1 3 (lit< tt)) froms tos (value-fits 0 0 (lit< tt))
 
-      found : inside r (pointOf g) ≡ true → (overlaps (g .bounds) b && holds n x) ≡ true
-      found e =
-          let on = inside-ends r (pointOf g) e in
-          let o : Overlap (g .bounds) b = record {
-            staff = spans-overlapOn r 0 3 (staffOf (g .bounds)) (staffOf b) refl refl (on 0 (lit< tt)) (on 3 (lit< tt));
-            doors = spans-overlapOn r 1 4 (doorsOf (g .bounds)) (doorsOf b) refl refl (on 1 (lit< tt)) (on 4 (lit< tt));
-            quarters = spans-overlapOn r 2 5 (quartersOf (g .bounds)) (quartersOf b) refl refl (on 2 (lit< tt)) (on 5 (lit< tt));
-          } in
-          let numbered = on 6 (lit< tt) in
-          and-eq-true-iff (overlaps (g .bounds) b) (holds n x) .1
-          (T-iff (overlaps (g .bounds) b) .0 (overlaps-iff (g .bounds) b .1 o), le-both (n .from) x x (n .to) (numbered .above) (numbered .below))
+  doors-free : (q : Region) → getD q 1 [] ≡ free 1 → getD q 4 [] ≡ free 4 → doorsLie g q ≡ true
+  doors-free q froms tos = free-pair q 1 4 _ _ (value-fits 3 4 (lit< tt)) froms tos (value-fits 2 1 (lit< tt))
 
-      hit : (overlaps (g .bounds) b && holds n x) ≡ true → inside r (pointOf g) ≡ true
-      hit e =
-          let both = and-eq-true-iff (overlaps (g .bounds) b) (holds n x) .0 e in
-          let o = overlaps-iff (g .bounds) b .0 (T-iff (overlaps (g .bounds) b) .1 (both .0)) in
-          let numbered = both-le (n .from) x x (n .to) (both .1) in
-          ends-inside r (pointOf g)
-          (every-axis (λ a. Spans r a (getD (pointOf g) a 0))
-          (overlapOn-from r 0 3 (staffOf (g .bounds)) (staffOf b) refl refl (o .staff))
-          (overlapOn-from r 1 4 (doorsOf (g .bounds)) (doorsOf b) refl refl (o .doors))
-          (overlapOn-from r 2 5 (quartersOf (g .bounds)) (quartersOf b) refl refl (o .quarters))
-          (overlapOn-to r 0 3 (staffOf (g .bounds)) (staffOf b) refl refl (value-fits 1 3 (lit< tt)) (o .staff))
-          (overlapOn-to r 1 4 (doorsOf (g .bounds)) (doorsOf b) refl refl (value-fits 3 4 (lit< tt)) (o .doors))
-          (overlapOn-to r 2 5 (quartersOf (g .bounds)) (quartersOf b) refl refl (value-fits 5 5 (lit< tt)) (o .quarters))
-          (record { above = numbered .0; below = numbered .1 }))
-
-  whole-holds : holds (whole 6) (g .number) ≡ true
-  whole-holds = le-both 0 (g .number) (g .number) (topOf 6) zero-le (omega (arith, fits .number))
+  quarters-free : (q : Region) → getD q 2 [] ≡ free 2 → getD q 5 [] ≡ free 5 → quartersLie g q ≡ true
+  quarters-free q froms tos = free-pair q 2 5 _ _ (value-fits 5 5 (lit< tt)) froms tos (value-fits 4 2 (lit< tt))
 
   pub box-hits : (q : Box) → inside (rangeOfBox q) (pointOf g) ≡ overlaps (g .bounds) q
-  unfolding rangeOfBox
-  box-hits q = hits-overlap q (whole 6) ∙ rw whole-holds (and-true _)
+  unfolding rangeOfBox overlaps
+  box-hits q =
+      inside-pairs g (rangeOfBox q)
+      ∙ rw (
+        closed-pair (rangeOfBox q) 0 3 (g .bounds .«staff_from») (g .bounds .«staff_to») (value-fits 1 3 (lit< tt)) (q .«staff_from») (q .«staff_to») refl refl,
+        closed-pair (rangeOfBox q) 1 4 (g .bounds .«door_from») (g .bounds .«door_to») (value-fits 3 4 (lit< tt)) (q .«door_from») (q .«door_to») refl refl,
+        closed-pair (rangeOfBox q) 2 5 (g .bounds .«quarter_from») (g .bounds .«quarter_to») (value-fits 5 5 (lit< tt)) (q .«quarter_from») (q .«quarter_to») refl refl,
+        free-lies (rangeOfBox q) 6 (g .number) refl number-fits,
+      )
+      (and-true _)
 
   pub box-hits-iff : (q : Box) → T (inside (rangeOfBox q) (pointOf g)) ↔ Overlap (g .bounds) q
   box-hits-iff q = rw (box-hits q) (overlaps-iff (g .bounds) q)
 
-  -- of a box that is whole in staff and quarters, the doors are left
-  doors-overlap : (d : Interval) → overlaps (g .bounds) (boxOf (whole 0) d (whole 2)) ≡ touches d g
-  unfolding overlaps
-  doors-overlap d =
-      rw (whole-overlapOn (staffOf (g .bounds)) 0 (value-fits 0 0 (lit< tt)), whole-overlapOn (quartersOf (g .bounds)) 2 (value-fits 4 2 (lit< tt)))
-      (and-true (touches d g))
-
-  all-overlap : overlaps (g .bounds) (boxOf (whole 0) (whole 1) (whole 2)) ≡ true
-  all-overlap = doors-overlap (whole 1) ∙ whole-overlapOn (doorsOf (g .bounds)) 1 (value-fits 2 1 (lit< tt))
-
   pub doors-hits : (d : Interval) → inside (rangeOfDoors d) (pointOf g) ≡ touches d g
   unfolding rangeOfDoors
-  doors-hits d = hits-overlap (boxOf (whole 0) d (whole 2)) (whole 6) ∙ rw (doors-overlap d, whole-holds) (and-true (touches d g))
+  doors-hits d =
+      inside-pairs g (rangeOfDoors d)
+      ∙ rw (
+        staff-free (rangeOfDoors d) refl refl,
+        quarters-free (rangeOfDoors d) refl refl,
+        free-lies (rangeOfDoors d) 6 (g .number) refl number-fits,
+        closed-pair (rangeOfDoors d) 1 4 (g .bounds .«door_from») (g .bounds .«door_to») (value-fits 3 4 (lit< tt)) (d .from) (d .to) refl refl,
+      )
+      (and-true _ ∙ and-true _)
 
   pub number-hits : (n : ℕ) → inside (rangeOfNumber n) (pointOf g) ≡ eqb (g .number) n
   unfolding rangeOfNumber
-  number-hits n = hits-overlap (boxOf (whole 0) (whole 1) (whole 2)) (record { from = n; to = n }) ∙ rw all-overlap (single (g .number))
+  number-hits n =
+      inside-pairs g (rangeOfNumber n)
+      ∙ rw (staff-free (rangeOfNumber n) refl refl, doors-free (rangeOfNumber n) refl refl, quarters-free (rangeOfNumber n) refl refl)
+      (single (g .number))
     where
-      single : (x : ℕ) → holds (record { from = n; to = n }) x ≡ eqb x n
+      single : (x : ℕ) → (leb n x && leb x n) ≡ eqb x n
       single x =
-          tests-agree (holds (record { from = n; to = n }) x) (eqb x n)
+          tests-agree (leb n x && leb x n) (eqb x n)
           (λ e. let both = both-le n x x n e in eq-eqb x n (omega arith))
           (λ e. let same = eqb-true x n e in le-both n x x n (omega arith) (omega arith))
 
   pub all-hits : inside rangeOfAll (pointOf g) ≡ true
   unfolding rootRegion countFrom
-  all-hits = hits-overlap (boxOf (whole 0) (whole 1) (whole 2)) (whole 6) ∙ rw (all-overlap, whole-holds)
+  all-hits =
+      inside-pairs g rangeOfAll
+      ∙ rw (staff-free rangeOfAll refl refl, doors-free rangeOfAll refl refl, quarters-free rangeOfAll refl refl)
+      (free-lies rangeOfAll 6 (g .number) refl number-fits)
 
 pub box-one-sided : (b : Box) → OneSided (rangeOfBox b)
 unfolding rangeOfBox

@@ -1,5 +1,6 @@
 -- The tests of specs/Overlap are its conditions.
---   overlapOn-iff, overlaps-iff     on one range, and on all three
+--   overlapOn-iff, overlapInTime-iff   on one range, and on quarters
+--   overlaps-iff                    on all three
 --   overlapping-iff                 so the grants that the book takes are those that overlap
 -- Assumes nothing.
 use mathlib.Core.Logic.{_↔_}
@@ -10,12 +11,19 @@ use Rattle.lists.proofs.TestLaws.{T-iff, T-and, both-le, le-both, mem-filter, f
 use Rattle.model.specs.declared.Box.{Box}
 use Rattle.model.specs.declared.Grant.{Grant}
 use Rattle.model.specs.Interval.{Interval}
+use Rattle.model.specs.Quarters.{Quarters}
 use Rattle.model.specs.Box.{staffOf, doorsOf, quartersOf}
-use Rattle.model.specs.Overlap.{OverlapOn, Overlap, overlapOn, overlaps}
+use Rattle.model.specs.Overlap.{OverlapOn, OverlapInTime, Overlap, overlapOn, overlapInTime, overlaps}
 use Rattle.model.specs.Book.{overlapping}
 
 pub overlapOn-iff : (a b : Interval) → T (overlapOn a b) ↔ OverlapOn a b
 overlapOn-iff a b = (
+  (λ t. let both = both-le (a .from) (b .to) (b .from) (a .to) (T-iff _ .0 t) in record { starts = both .0; ends = both .1 }),
+  (λ o. T-iff _ .1 (le-both (a .from) (b .to) (b .from) (a .to) (o .starts) (o .ends))),
+)
+
+pub overlapInTime-iff : (a b : Quarters) → T (overlapInTime a b) ↔ OverlapInTime a b
+overlapInTime-iff a b = (
   (λ t. let both = both-le (a .from) (b .to) (b .from) (a .to) (T-iff _ .0 t) in record { starts = both .0; ends = both .1 }),
   (λ o. T-iff _ .1 (le-both (a .from) (b .to) (b .from) (a .to) (o .starts) (o .ends))),
 )
@@ -25,9 +33,9 @@ unfolding overlaps
 overlaps-iff a b =
     let staff = overlapOn-iff (staffOf a) (staffOf b) in
     let doors = overlapOn-iff (doorsOf a) (doorsOf b) in
-    let quarters = overlapOn-iff (quartersOf a) (quartersOf b) in
+    let quarters = overlapInTime-iff (quartersOf a) (quartersOf b) in
     let two = T-and (overlapOn (staffOf a) (staffOf b)) (overlapOn (doorsOf a) (doorsOf b)) in
-    let three = T-and (overlapOn (staffOf a) (staffOf b) && overlapOn (doorsOf a) (doorsOf b)) (overlapOn (quartersOf a) (quartersOf b)) in (
+    let three = T-and (overlapOn (staffOf a) (staffOf b) && overlapOn (doorsOf a) (doorsOf b)) (overlapInTime (quartersOf a) (quartersOf b)) in (
       (λ t. let r = three .0 t in let l = two .0 (r .0) in record { staff = staff .0 (l .0); doors = doors .0 (l .1); quarters = quarters .0 (r .1) }),
       (λ o. three .1 (two .1 (staff .1 (o .staff), doors .1 (o .doors)), quarters .1 (o .quarters))),
     )

@@ -23,13 +23,14 @@ use Rattle.model.specs.declared.RequestFault.the-variants.{ZeroNumber, U
 use Rattle.model.specs.declared.RequestCheck.{RequestCheck}
 use Rattle.model.specs.declared.RequestCheck.the-variants.{Right, Wrong}
 use Rattle.model.specs.Interval.{Interval, reversed}
+use Rattle.model.specs.Quarters.{noQuarters}
 use Rattle.model.specs.Box.{staffOf, doorsOf, quartersOf}
 use Rattle.model.specs.Seniority.{rankTooLow}
 use Rattle.model.specs.Call.{Request}
 use Rattle.model.specs.Refusal.{Cause, _if_}
 
 unfoldable pub reversedBox : Box → Bool
-reversedBox b = reversed (staffOf b) || reversed (doorsOf b) || reversed (quartersOf b)
+reversedBox b = reversed (staffOf b) || reversed (doorsOf b) || noQuarters (quartersOf b)
 
 abbrev pub reversedDoors : Interval → Bool
 reversedDoors d = reversed d

@@ -7,6 +7,7 @@ use Prim.Native.Nat.{ℕ}
 use mathlib.Core.List.{List, [], _∷_}
 use Rattle.model.specs.declared.Box.{Box}
 use Rattle.model.specs.Interval.{Interval}
+use Rattle.model.specs.Quarters.{Quarters}
 
 abbrev pub staffOf : Box → Interval
 staffOf b = record { from = b .«staff_from»; to = b .«staff_to» }
@@ -14,7 +15,7 @@ staffOf b = record { from = b .«staff_from»; to = b .«staff_to» }
 abbrev pub doorsOf : Box → Interval
 doorsOf b = record { from = b .«door_from»; to = b .«door_to» }
 
-abbrev pub quartersOf : Box → Interval
+abbrev pub quartersOf : Box → Quarters
 quartersOf b = record { from = b .«quarter_from»; to = b .«quarter_to» }
 
 abbrev pub boxValues : Box → List ℕ

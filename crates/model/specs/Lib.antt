@@ -2,6 +2,7 @@
 pub mod Limits
 pub mod Kind
 pub mod Interval
+pub mod Quarters
 pub mod Box
 pub mod Overlap
 pub mod Grant
