@@ -5,7 +5,7 @@
 namespace {
 
 constexpr size_t RECORD_BYTES = 16, RECORDS = 31, RECORDS_AT = 8, HEAD_END = 12;
-constexpr uint8_t MARK[4] = {0x4C, 0x47, 0x46, 0x31};
+constexpr uint8_t MARK[4] = {0x4C, 0x47, 0x46, 0x32};
 
 void put(uint8_t *bytes, size_t value)
 {
@@ -49,7 +49,8 @@ Span get_span(const uint8_t *bytes)
 
 Grant get_record(const uint8_t *record)
 {
-    return {get(record), record[2], record[3], {get_span(record + 4), get_span(record + 8), get_span(record + 12)}};
+    const HalfOpen quarters{get(record + 12), get(record + 14)};
+    return {get(record), record[2], record[3], {get_span(record + 4), get_span(record + 8), quarters}};
 }
 
 size_t blocks_for(size_t count)
@@ -88,7 +89,7 @@ bool sound(const Grant &grant, uint16_t last, Span doors)
 {
     const Box &box = grant.box;
     return grant.number > last && grant.kind <= 1 && box.staff.from <= box.staff.to && box.doors.from <= box.doors.to &&
-           box.quarters.from <= box.quarters.to && is_senior_enough(grant) && overlap(box.doors, doors);
+           box.quarters.from < box.quarters.to && is_senior_enough(grant) && overlap(box.doors, doors);
 }
 
 // A block of records; `last` is the number before its first and becomes its last.

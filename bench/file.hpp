@@ -1,4 +1,5 @@
-// The grants file (document 01, "The grants file"), written and judged plainly: for the engines other than the library.
+// The grants file (document 01, "The grants file"; document 02, cards 2 and 3), written and judged plainly: for the engines other than
+// the library.
 #pragma once
 
 #include "check.hpp"

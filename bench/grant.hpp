@@ -1,4 +1,4 @@
-// Grants, and what is asked of them (document 01, "The plain book").
+// Grants, and what is asked of them (document 01, "The plain book"; document 02, cards 1 to 3).
 #pragma once
 
 #include <cstddef>
@@ -7,13 +7,19 @@
 
 constexpr size_t MOST_GRANTS = 2048;
 
-// A range; both ends belong to it.
+// A range of staff or doors; both ends belong to it.
 struct Span {
     uint16_t from, to;
 };
 
+// A range of quarters; `to` is the first that is no longer covered.
+struct HalfOpen {
+    uint16_t from, to;
+};
+
 struct Box {
-    Span staff, doors, quarters;
+    Span staff, doors;
+    HalfOpen quarters;
 };
 
 // In memory as in a record of the file, but for the order of the bytes.
@@ -28,11 +34,18 @@ struct Point {
     uint16_t staff, door, quarter;
 };
 
+constexpr uint16_t LAST_QUARTER = 65535; // which no grant covers
 constexpr Span EVERY{0, 65535};
+constexpr HalfOpen ALWAYS{0, LAST_QUARTER};
 
 inline bool overlap(Span a, Span b)
 {
     return a.from <= b.to && a.to >= b.from;
+}
+
+inline bool overlap(HalfOpen a, HalfOpen b)
+{
+    return a.from < b.to && b.from < a.to;
 }
 
 inline bool overlap(const Box &a, const Box &b)
@@ -40,9 +53,10 @@ inline bool overlap(const Box &a, const Box &b)
     return overlap(a.staff, b.staff) && overlap(a.doors, b.doors) && overlap(a.quarters, b.quarters);
 }
 
+// The point's quarter alone. At the last one it would end at 0: nothing overlaps it.
 inline Box box_of(Point point)
 {
-    return {{point.staff, point.staff}, {point.door, point.door}, {point.quarter, point.quarter}};
+    return {{point.staff, point.staff}, {point.door, point.door}, {point.quarter, static_cast<uint16_t>(point.quarter + 1)}};
 }
 
 // Whether a decides before b: the higher rank, at equal rank the higher number.

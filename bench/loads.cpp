@@ -15,11 +15,29 @@ Span span(uint32_t from, uint32_t to)
     return {static_cast<uint16_t>(from), static_cast<uint16_t>(to)};
 }
 
+HalfOpen quarters(uint32_t from, uint32_t length)
+{
+    return {static_cast<uint16_t>(from), static_cast<uint16_t>(from + length)};
+}
+
+// The same two values as quarters.
+HalfOpen half_open(Span ends)
+{
+    return {ends.from, ends.to};
+}
+
 Span anywhere(Random &random, uint32_t most_long)
 {
     uint32_t length = random.between(1, most_long);
     uint32_t from = random.below(65537 - length);
     return span(from, from + length - 1);
+}
+
+// Up to the last quarter that can be covered.
+HalfOpen any_time(Random &random, uint32_t most_long)
+{
+    uint32_t length = random.between(1, most_long);
+    return quarters(random.below(65536 - length), length);
 }
 
 Span within(Random &random, Span outer, uint32_t most_long)
@@ -28,9 +46,20 @@ Span within(Random &random, Span outer, uint32_t most_long)
     return span(from, std::min<uint32_t>(outer.to, from + random.below(most_long)));
 }
 
+HalfOpen within(Random &random, HalfOpen outer, uint32_t most_long)
+{
+    uint32_t from = random.between(outer.from, outer.to - 1);
+    return quarters(from, std::min<uint32_t>(outer.to - from, 1 + random.below(most_long)));
+}
+
 uint16_t one_in(Random &random, Span span)
 {
     return static_cast<uint16_t>(random.between(span.from, span.to));
+}
+
+uint16_t one_in(Random &random, HalfOpen quarters)
+{
+    return static_cast<uint16_t>(random.between(quarters.from, quarters.to - 1));
 }
 
 Point point_in(Random &random, const Box &box)
@@ -102,11 +131,11 @@ Load uniform(Random &random, size_t size)
 {
     Load load;
     load.name = "uniform";
-    auto box = [&] { return Box{anywhere(random, 4096), anywhere(random, 4096), anywhere(random, 4096)}; };
+    auto box = [&] { return Box{anywhere(random, 4096), anywhere(random, 4096), any_time(random, 4096)}; };
     load.grants = many(size, [&] { return raised({0, byte_below(random, 256), byte_below(random, 2), box()}); });
     number_spread(random, load.grants);
     load.points = many(QUESTIONS, [&] {
-        return point_in(random, random.percent(50) ? random.one_of(load.grants).box : Box{EVERY, EVERY, EVERY});
+        return point_in(random, random.percent(50) ? random.one_of(load.grants).box : Box{EVERY, EVERY, ALWAYS});
     });
     load.boxes = many(QUESTIONS, box);
     return load;
@@ -117,17 +146,17 @@ struct Bank {
     Span staff, doors;
 };
 
-Span weeks(Random &random)
+HalfOpen weeks(Random &random)
 {
-    uint32_t length = random.between(1, 13) * WEEK, from = random.below(YEAR - length);
-    return span(from, from + length - 1);
+    uint32_t length = random.between(1, 13) * WEEK;
+    return quarters(random.below(YEAR - length), length);
 }
 
-Span shift(Random &random)
+HalfOpen shift(Random &random)
 {
     constexpr uint32_t STARTS[] = {24, 56, 88}; // six, fourteen and twenty-two o'clock
     uint32_t from = random.below(365) * DAY + STARTS[random.below(3)];
-    return span(from, from + 8 * HOUR - 1);
+    return quarters(from, 8 * HOUR);
 }
 
 // A day on which some doors are shut to all staff, or all doors to one of them.
@@ -137,7 +166,7 @@ Grant bar(Random &random, const Bank &bank)
     bool all_staff = random.percent(50);
     Span staff = all_staff ? bank.staff : within(random, bank.staff, 1);
     Span doors = all_staff ? within(random, bank.doors, 4) : bank.doors;
-    return {0, byte_between(random, 200, 250), 0, {staff, doors, span(from, from + DAY - 1)}};
+    return {0, byte_between(random, 200, 250), 0, {staff, doors, quarters(from, DAY)}};
 }
 
 // Of a hundred: 60 for one shift, 25 for some weeks, 10 for the year, 5 bars.
@@ -151,7 +180,7 @@ Grant bank_grant(Random &random, const Bank &bank)
         return {0, byte_between(random, 50, 99), 1, {staff, doors, shift(random)}};
     if (which < 85)
         return {0, byte_between(random, 20, 60), 1, {staff, doors, weeks(random)}};
-    return {0, byte_between(random, 5, 40), 1, {staff, doors, span(0, YEAR - 1)}};
+    return {0, byte_between(random, 5, 40), 1, {staff, doors, quarters(0, YEAR)}};
 }
 
 // Inside a grant, or its staff and door at some other time.
@@ -159,7 +188,7 @@ Point question_near(Random &random, const Grant &grant, uint32_t inside_percent)
 {
     Box box = grant.box;
     if (!random.percent(inside_percent))
-        box.quarters = span(0, YEAR - 1);
+        box.quarters = quarters(0, YEAR);
     return point_in(random, box);
 }
 
@@ -172,12 +201,12 @@ Load one_bank(Random &random, size_t size)
     number_rising(random, load.grants);
     take_swaps(random, load);
     load.points = many(QUESTIONS, [&] {
-        return random.percent(10) ? point_in(random, {bank.staff, bank.doors, span(0, YEAR - 1)})
+        return random.percent(10) ? point_in(random, {bank.staff, bank.doors, quarters(0, YEAR)})
                                   : question_near(random, random.one_of(load.grants), 67);
     });
     load.boxes = many(QUESTIONS, [&] { // who may pass one door in one hour
         uint32_t hour = random.below(YEAR - HOUR);
-        return Box{EVERY, within(random, bank.doors, 1), span(hour, hour + HOUR - 1)};
+        return Box{EVERY, within(random, bank.doors, 1), quarters(hour, HOUR)};
     });
     return load;
 }
@@ -212,18 +241,24 @@ Load head_office(Random &random, size_t size)
     load.points = many(QUESTIONS, [&] { return question_near(random, random.one_of(load.grants), 60); });
     load.boxes = many(QUESTIONS, [&] { // a bank's doors over a week
         uint32_t from = random.below(YEAR - WEEK);
-        return Box{EVERY, bank_at(random.below(BANKS)).doors, span(from, from + WEEK - 1)};
+        return Box{EVERY, bank_at(random.below(BANKS)).doors, quarters(from, WEEK)};
     });
     load.banks = many(FILES, [&] { return bank_at(random.below(BANKS)).doors; });
     return load;
 }
 
-// One of the three ranges becomes a single value, just outside the equal boxes.
+// One of the three ranges becomes a single value, just outside the equal boxes. The to of their quarters is outside them.
 Box pinned(Random &random, Box box)
 {
-    Span *const ranges[] = {&box.staff, &box.doors, &box.quarters};
-    uint16_t outside = random.percent(50) ? 0x8000 : 0x801F;
-    *ranges[random.below(3)] = {outside, outside};
+    const bool before = random.percent(50);
+    const uint32_t which = random.below(3);
+    const Span outside = before ? span(0x8000, 0x8000) : span(0x801F, 0x801F);
+    if (which == 0)
+        box.staff = outside;
+    else if (which == 1)
+        box.doors = outside;
+    else
+        box.quarters = quarters(before ? 0x8000 : 0x801E, 1);
     return box;
 }
 
@@ -233,15 +268,15 @@ Load clustered(Random &random, size_t size)
 {
     Load load;
     load.name = "clustered";
-    auto near = [&] { return Span{one_in(random, {0x8000, 0x800F}), one_in(random, {0x8010, 0x801F})}; };
+    auto near = [&] { return Span{one_in(random, span(0x8000, 0x800F)), one_in(random, span(0x8010, 0x801F))}; };
     for (size_t i = 0; i < size; i++) {
         const Span equal = span(0x8001, 0x801E);
-        Box box = i % 2 != 0 ? Box{equal, equal, equal} : Box{near(), near(), near()};
+        Box box = i % 2 != 0 ? Box{equal, equal, half_open(equal)} : Box{near(), near(), half_open(near())};
         load.grants.push_back({static_cast<uint16_t>(i + 1), byte_below(random, 4), byte_below(random, 2), box});
     }
     const Span middle = span(0x800F, 0x800F);
-    load.points = many(QUESTIONS, [&] { return point_in(random, pinned(random, {middle, middle, middle})); });
-    load.boxes = many(QUESTIONS, [&] { return pinned(random, {EVERY, EVERY, EVERY}); });
+    load.points = many(QUESTIONS, [&] { return point_in(random, pinned(random, {middle, middle, quarters(0x800F, 1)})); });
+    load.boxes = many(QUESTIONS, [&] { return pinned(random, {EVERY, EVERY, ALWAYS}); });
     return load;
 }
 
@@ -250,13 +285,15 @@ Load all_overlapping(Random &random, size_t size)
 {
     Load load;
     load.name = "all overlapping";
-    auto wide = [&] { return Span{one_in(random, {0, 4095}), one_in(random, {61440, 65535})}; };
-    load.grants = many(size, [&] { return raised({0, byte_below(random, 256), byte_below(random, 2), {wide(), wide(), wide()}}); });
+    auto wide = [&] { return Span{one_in(random, span(0, 4095)), one_in(random, span(61440, 65535))}; };
+    auto box = [&] { return Box{wide(), wide(), half_open(wide())}; };
+    load.grants = many(size, [&] { return raised({0, byte_below(random, 256), byte_below(random, 2), box()}); });
     number_spread(random, load.grants);
     const Span middle = span(3000, 62500);
-    load.points = many(QUESTIONS, [&] { return point_in(random, {middle, middle, middle}); });
+    const HalfOpen middle_time = quarters(3000, 59501);
+    load.points = many(QUESTIONS, [&] { return point_in(random, {middle, middle, middle_time}); });
     load.boxes = many(QUESTIONS, [&] {
-        return Box{within(random, middle, 500), within(random, middle, 500), within(random, middle, 500)};
+        return Box{within(random, middle, 500), within(random, middle, 500), within(random, middle_time, 500)};
     });
     return load;
 }

@@ -3,6 +3,10 @@
  *
  * Link with libc_api.a.
  *
+ * Ranges of quarters are half-open, in grants and in the boxes of lg_list: quarter_from is covered, quarter_to is not. Of staff and of
+ * doors, both ends belong to the range. The last quarter that a grant can cover is 65534. A pool has no mark: one that an earlier library
+ * made has closed quarters, and nothing tells; make it anew.
+ *
  * A pool is `pool_words` words and nothing outside them. A file is `file_bytes` bytes. A record of openings is `door_bytes` or
  * `panel_bytes` bytes: entries of 8 bytes. Lengths are in elements. Each pointer must be valid for its length and aligned for its type,
  * and memory that a call may change must not overlap the call's other memory. Every call is safe on any contents: a pool that no call
@@ -26,7 +30,7 @@
  * a and b are 0 where a call below does not name them. A refused call leaves all memory as it was.
  *
  *      1  not a pool: its length is no pool's, or its first word is not its capacity (lg_start and lg_load ask only for the length)
- *      2  a range of the box, or the doors, end before they start
+ *      2  staff or doors end before they start, or quarters cover nothing: their from is not below their to
  *      3  the number is 0
  *      4  the kind is above 1
  *      5  the number is already live
@@ -35,10 +39,11 @@
  *      8  the list is too short; a = count needed
  *      9  the pool's links are broken: one leads outside the cells, too deep, or to more cells than there are
  *     10  the file is not 1 to 68 whole blocks, or the block is not in it
- *     11  a block's mark, number, record count or fill is wrong, or in block 0 its n, the block count or the door order; b = the block
+ *     11  a block's mark, number, record count or fill is wrong, or in block 0 its n, the block count or the door order; b = the block.
+ *         The mark is LGF2. A file with the older mark, LGF1, has closed quarters: it must be cut anew
  *     12  a block's check is wrong; b = the block
- *     13  a record is wrong: number 0 or not above the last, kind above 1, a range that ends before it starts, more than 1,000 doors at
- *         a rank below 200, doors of the file that it does not touch; b = the block
+ *     13  a record is wrong: number 0 or not above the last, kind above 1, staff or doors that end before they start, quarters whose from
+ *         is not below their to, more than 1,000 doors at a rank below 200, doors of the file that it does not touch; b = the block
  *     14  the lent bytes are too few; b = length needed
  *     16  the grant is over more than 1,000 doors and its rank is below 200
  *     24  a record of openings is not whole entries, or has more than 4,096
@@ -70,7 +75,7 @@ extern "C" {
  * Refuses 1. Leaves: an empty pool. */
 uint64_t lg_start(uint16_t *pool, size_t pool_words);
 
-/* Adds a grant. kind: 0 bars, 1 opens. Both ends of each range belong to it.
+/* Adds a grant. kind: 0 bars, 1 opens. It covers the quarters from quarter_from on, up to and without quarter_to.
  * Refuses 1, 3, 4, 2, 16, 9, 5 and 6, in this order. Leaves: the pool with the grant live. */
 uint64_t lg_grant(uint16_t *pool, size_t pool_words, uint16_t number, uint8_t rank, uint8_t kind, uint16_t staff_from,
                   uint16_t staff_to, uint16_t door_from, uint16_t door_to, uint16_t quarter_from, uint16_t quarter_to);
@@ -79,13 +84,15 @@ uint64_t lg_grant(uint16_t *pool, size_t pool_words, uint16_t number, uint8_t ra
  * Refuses 1, 3, 9 and 7, in this order. Leaves: the pool without the grant. */
 uint64_t lg_revoke(uint16_t *pool, size_t pool_words, uint16_t number);
 
-/* The numbers of the live grants whose boxes overlap a box, ascending, from the start of the list.
+/* The numbers of the live grants whose boxes overlap a box, ascending, from the start of the list. A grant that ends when the box begins,
+ * or begins when it ends, is not among them.
  * Accepted: a = how many were written. Refuses 1, 2, 9 and 8 (a = count needed), in this order.
  * Leaves: the numbers in the list; elements past them, and the pool, stay. */
 uint64_t lg_list(const uint16_t *pool, size_t pool_words, uint16_t staff_from, uint16_t staff_to, uint16_t door_from,
                  uint16_t door_to, uint16_t quarter_from, uint16_t quarter_to, uint16_t *list, size_t list_words);
 
-/* What decides at a point: the live grant of the highest rank that holds it, at equal rank the one of the highest number.
+/* What decides at a point: the live grant of the highest rank that holds it, at equal rank the one of the highest number. Quarter
+ * No grant covers quarter 65535: there the answer is none on every pool, no link is followed, and 9 does not come.
  * Accepted: a = 0 none, 1 opens, 2 barred. Refuses 1 and 9, in this order.
  * Leaves: with 1 and 2, out = number, rank, kind, staff from, staff to, door from, door to, quarter from, quarter to, 0; otherwise
  * out stays. The pool stays. */

@@ -18,9 +18,10 @@ using Solid = geometry::model::box<Corner>;
 using Entry = std::pair<Solid, uint16_t>;
 using Rtree = geometry::index::rtree<Entry, geometry::index::rstar<16>>;
 
+// Boost's boxes are closed: they end with the last quarter that is covered.
 Solid solid_of(const Box &box)
 {
-    return {Corner(box.staff.from, box.doors.from, box.quarters.from), Corner(box.staff.to, box.doors.to, box.quarters.to)};
+    return {Corner(box.staff.from, box.doors.from, box.quarters.from), Corner(box.staff.to, box.doors.to, box.quarters.to - 1)};
 }
 
 class BoostRtree : public Engine {

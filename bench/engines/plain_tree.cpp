@@ -8,15 +8,25 @@
 
 namespace {
 
+// The quarters of a hit begin below the box's to, and their own to is above its from.
 Region range_of(const Box &box)
 {
     return {Range{0, box.staff.to},
             {0, box.doors.to},
-            {0, box.quarters.to},
+            {0, static_cast<uint16_t>(box.quarters.to - 1)},
             {box.staff.from, 65535},
             {box.doors.from, 65535},
-            {box.quarters.from, 65535},
+            {static_cast<uint16_t>(box.quarters.from + 1), 65535},
             WHOLE_AXIS};
+}
+
+// The staff and quarter axes are free.
+Region range_of(Span doors)
+{
+    Region range = WHOLE;
+    range[1].high = doors.to;
+    range[4].low = doors.from;
+    return range;
 }
 
 Region range_of(uint16_t number)
@@ -81,6 +91,8 @@ public:
     bool decide(Point point, Grant &deciding) override
     {
         const uint16_t *best = nullptr;
+        if (point.quarter == LAST_QUARTER)
+            return false;
         search(range_of(box_of(point)), [&](const Spot &spot) {
             const uint16_t *cell = tree.cell(spot.cell);
             if (best == nullptr || decides_before(cell, best))
@@ -105,7 +117,7 @@ public:
     {
         Grant touching[MOST_GRANTS];
         size_t count = 0;
-        search(range_of({EVERY, doors, EVERY}), [&](const Spot &spot) { touching[count++] = grant_in(tree.cell(spot.cell)); });
+        search(range_of(doors), [&](const Spot &spot) { touching[count++] = grant_in(tree.cell(spot.cell)); });
         std::sort(touching, touching + count, [](const Grant &a, const Grant &b) { return a.number < b.number; });
         return write_file(doors, touching, count, bytes, check_by_byte);
     }

@@ -71,7 +71,7 @@ public:
     {
         Grant touching[MOST_GRANTS];
         size_t found = 0;
-        mark({EVERY, doors, EVERY});
+        mark({EVERY, doors, ALWAYS});
         for_each_mark([&](size_t i) { touching[found++] = get(i); });
         return write_file(doors, touching, found, bytes, check_by_table);
     }
@@ -122,7 +122,7 @@ private:
         for (size_t i = 0; i < count; i++)
             marks[i] = (columns[STAFF_FROM][i] <= box.staff.to) & (columns[STAFF_TO][i] >= box.staff.from) &
                        (columns[DOORS_FROM][i] <= box.doors.to) & (columns[DOORS_TO][i] >= box.doors.from) &
-                       (columns[QUARTERS_FROM][i] <= box.quarters.to) & (columns[QUARTERS_TO][i] >= box.quarters.from);
+                       (columns[QUARTERS_FROM][i] < box.quarters.to) & (columns[QUARTERS_TO][i] > box.quarters.from);
         memset(marks + count, 0, sizeof(uint64_t));
     }
 

@@ -132,9 +132,9 @@ private:
     Statement gone{base, "DELETE FROM grants WHERE number = ?1"};
     Statement decider{base, "SELECT number, rank, kind, staff_from, staff_to, doors_from, doors_to, quarters_from, quarters_to"
                             " FROM grants WHERE staff_from <= ?1 AND staff_to >= ?1 AND doors_from <= ?2 AND doors_to >= ?2"
-                            " AND quarters_from <= ?3 AND quarters_to >= ?3 ORDER BY rank DESC, number DESC LIMIT 1"};
+                            " AND quarters_from <= ?3 AND quarters_to > ?3 ORDER BY rank DESC, number DESC LIMIT 1"};
     Statement overlapping{base, "SELECT number FROM grants WHERE staff_from <= ?2 AND staff_to >= ?1 AND doors_from <= ?4"
-                                " AND doors_to >= ?3 AND quarters_from <= ?6 AND quarters_to >= ?5 ORDER BY number"};
+                                " AND doors_to >= ?3 AND quarters_from < ?6 AND quarters_to > ?5 ORDER BY number"};
     std::bitset<65536> live;
     size_t count = 0, most = 0;
 };

@@ -26,10 +26,16 @@ BYTE = 0xFF
 MOST_CELLS = 2048
 BARS, OPENS = 0, 1
 
-Bounds = collections.namedtuple("Bounds", "staff_from staff_to door_from door_to quarter_from quarter_to")
 Grant = collections.namedtuple("Grant", "number rank kind bounds")
 Count = collections.namedtuple("Count", "live free")
 Comparison = collections.namedtuple("Comparison", "agree left_in_door left_in_panel")
+
+
+class Bounds(collections.namedtuple("Bounds", "staff_from staff_to door_from door_to quarter_from quarter_until")):
+    """A box. Both ends of staff and of doors belong to it. Quarters are half-open, as Python's ranges are: quarter_until is the first that
+    isn't covered, so 65534 is the last that can be."""
+
+    __slots__ = ()
 
 
 class Opening(collections.namedtuple("Opening", "door quarter staff")):
@@ -57,7 +63,7 @@ class Fault(enum.IntEnum):
     """
 
     BadPool = 1, "not a pool"
-    Reversed = 2, "a range ends before it starts"
+    Reversed = 2, "a range ends before it starts, or the quarters cover nothing"
     ZeroNumber = 3, "the grant number is 0"
     UnknownKind = 4, "the kind is above 1"
     AlreadyLive = 5, "the number is already live"
@@ -198,7 +204,7 @@ def start(pool):
 
 
 def grant(pool, number, rank, kind, bounds):
-    """Adds a grant; kind: 0 bars, 1 opens. Refuses 1, 3, 4, 2, 16, 9, 5 and 6, in this order."""
+    """Adds a grant; kind: 0 bars, 1 opens; bounds: `Bounds`, or its six values. Refuses 1, 3, 4, 2, 16, 9, 5 and 6, in this order."""
     fields = _fits(WORD, number) + _fits(BYTE, rank, kind) + _box(bounds)
     address, length, _held = _words(pool)
     _unpack(_lg.lg_grant(address, length, *fields))
@@ -220,7 +226,8 @@ def list_into(pool, bounds, numbers):
 
 
 def decide(pool, staff, door, quarter):
-    """The grant that decides at a point, or None; its kind says whether it opens. Refuses 1 and 9, in this order."""
+    """The grant that decides at a point, or None; its kind says whether it opens. At quarter 65535, which no grant covers, always None.
+    Refuses 1 and, but for that quarter, 9, in this order."""
     _fits(WORD, staff, door, quarter)
     out = (ctypes.c_uint16 * 10)()
     address, length, _held = _words(pool)

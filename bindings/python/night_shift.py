@@ -4,8 +4,8 @@
 """
 import lg
 
-# Quarter-hours from the operator's base day: ten in the evening to six in the morning.
-NIGHT = (88, 119)
+# Quarter-hours from the operator's base day: ten in the evening until six in the morning, when the shift is over.
+NIGHT = (88, 120)
 
 office = lg.Index(2048)
 office.grant(7, 10, lg.OPENS, (100, 199, 1, 40, *NIGHT))

@@ -1,6 +1,6 @@
 #!/usr/bin/env python3
-"""What the Python module adds to the calls: threads that share an index, its copies, what it refuses before the library is asked, and
-openings by their fields; its comparisons of records are held against the plain scan.
+"""What the Python module adds to the calls: threads that share an index, its copies, what it refuses before the library is asked, the
+names of a box's ends, and openings by their fields; its comparisons of records are held against the plain scan.
 
     module.py      says what is not as it should be
 """
@@ -143,6 +143,33 @@ def try_capacities():
         check(lg.Index(capacity).count() == (0, capacity), "no index of %d cells" % capacity)
 
 
+def try_quarters():
+    """A grant covers the quarters of Python's range from quarter_from to quarter_until; where that is empty, it is refused."""
+    everything = lg.Bounds(*EVERYTHING)
+    for covered in (range(88, 120), range(1), range(lg.WORD), range(lg.WORD - 1, lg.WORD)):
+        index = lg.Index(1)
+        bounds = everything._replace(quarter_from=covered.start, quarter_until=covered.stop)
+        index.grant(1, 200, lg.OPENS, bounds)
+        for quarter in {0, 1, 87, 88, 119, 120, 121, lg.WORD - 2, lg.WORD - 1, lg.WORD}:
+            right = lg.Grant(1, 200, lg.OPENS, bounds) if quarter in covered else None
+            decided = index.decide(1, 1, quarter)
+            check(decided == right, "%s is right at quarter %d, the module answers %s" % (right, quarter, decided))
+    for start, stop in ((0, 0), (88, 88), (lg.WORD, lg.WORD), (89, 88)):
+        empty = everything._replace(quarter_from=start, quarter_until=stop)
+        for act in (lambda: lg.Index(1).grant(1, 200, lg.OPENS, empty), lambda: lg.Index(1).list(empty)):
+            why = refusal(act)
+            check(why.fault == lg.Fault.Reversed and "cover nothing" in str(why), "quarters %d to %d: %s" % (start, stop, why))
+
+
+def refusal(act):
+    """The refusal of an act that the library refuses."""
+    try:
+        act()
+    except lg.Refused as why:
+        return why
+    check(False, "not refused")
+
+
 def try_entries():
     """An entry is door, quarter and staff with the high byte first; a value that does not fit its field is refused."""
     opening = lg.Opening(0x0102, 0x0304, 0x05060708)
@@ -207,6 +234,7 @@ def try_library(path):
 try_copies()
 try_memory()
 try_capacities()
+try_quarters()
 try_entries()
 try_openings()
 try_library(os.path.join(ROOT, "no", "liblg.so"))

@@ -13,25 +13,33 @@ class Refused(Exception):
 
 
 def box_of(ends):
-    """Staff, doors and quarters, each from and to; both ends belong to it."""
+    """Staff, doors and quarters, each from and to. Both ends of staff and of doors belong to it; of quarters, the to is the first that is
+    no longer covered."""
     return tuple(ends[0:2]), tuple(ends[2:4]), tuple(ends[4:6])
 
 
-def point(staff, door, quarter):
-    return box_of((staff, staff, door, door, quarter, quarter))
-
-
 def share(a, b):
-    """Whether two ranges share a value: condition 5 of source 001."""
+    """Whether two ranges of staff or of doors share a value: condition 5 of source 001."""
     return a[0] <= b[1] and a[1] >= b[0]
 
 
+def share_time(a, b):
+    """Whether two ranges of quarters overlap: either begins before the other is over."""
+    return a[0] < b[1] and b[0] < a[1]
+
+
 def overlap(a, b):
-    return all(share(x, y) for x, y in zip(a, b))
+    return share(a[0], b[0]) and share(a[1], b[1]) and share_time(a[2], b[2])
 
 
-def is_reversed(ranges):
-    return any(low > high for low, high in ranges)
+def covers(box, staff, door, quarter):
+    return box[0][0] <= staff <= box[0][1] and box[1][0] <= door <= box[1][1] and quarter in range(*box[2])
+
+
+def is_reversed(box):
+    """Whether staff or doors end before they start, or quarters cover nothing."""
+    staff, doors, quarters = box
+    return staff[0] > staff[1] or doors[0] > doors[1] or not range(*quarters)
 
 
 def is_too_wide(grant):
@@ -90,10 +98,10 @@ class Book:
         return numbers
 
     def decide(self, staff, door, quarter):
-        """The grant that decides, or None."""
+        """The grant that decides, or None, as always at 65535: a range of quarters has no value above 65534."""
         best = None
-        for g in self.hits(point(staff, door, quarter)):
-            if best is None or outranks(g, best):
+        for g in self.live:
+            if covers(g.box, staff, door, quarter) and (best is None or outranks(g, best)):
                 best = g
         return best
 

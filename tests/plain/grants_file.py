@@ -1,8 +1,9 @@
-"""Document 01's grants file as plain bytes. It shares nothing with the product."""
+"""Document 01's grants file as plain bytes, with the cards of document 02 that have landed. It shares nothing with the product."""
 
 BLOCK = 512
 CHECK = 510
 RECORDS = 31
+MARK = bytes.fromhex("4C474632")
 
 
 def word(n):
@@ -20,7 +21,7 @@ def check(covered):
 
 def block(number, contents):
     """A block: mark, number, contents, fill, check."""
-    begun = b"LGF1" + word(number) + contents
+    begun = MARK + word(number) + contents
     covered = begun + bytes(CHECK - len(begun))
     return covered + check(covered)
 

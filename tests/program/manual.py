@@ -1,7 +1,8 @@
-"""The manual's worked day, as it stands there: manual.py PROGRAM MANUAL. Each block that begins with `$ ` is run, and its lines compared.
+"""The manual's worked examples, as they stand there: manual.py PROGRAM CONVERTER MANUAL. Each block that begins with `$ ` is run, and its lines
+compared.
 
-In a block, `$ grants ..` is a command, `panel> ..` what is then typed, and every other line what must be printed: on standard error where it
-begins with `grants:`, else on standard output."""
+In a block, `$ grants ..`, `$ convert-journal ..` or `$ cat ..` is a command, `panel> ..` what is then typed, and every other line what must be
+printed: on standard error where it begins with `grants:`, else on standard output."""
 import pathlib
 import subprocess
 import sys
@@ -21,13 +22,12 @@ def blocks_of(manual):
     return blocks
 
 
-def try_block(program, block):
+def try_block(programs, block):
     command = block[0].removeprefix("$ ")
     typed = [line.removeprefix("panel> ") for line in block[1:] if line.startswith("panel> ")]
     shown = [line for line in block[1:] if not line.startswith("panel> ")]
     words = command.split(" ")
-    if words[0] == "grants":
-        words[0] = program
+    words[0] = programs[words[0]]
     ran = subprocess.run(words, input="".join(t + "\n" for t in typed), capture_output=True, text=True, check=False)
     if ran.returncode:
         sys.exit(f"manual: `{command}` ends with status {ran.returncode}")
@@ -38,9 +38,10 @@ def try_block(program, block):
             sys.exit(f"manual: `{command}` prints on standard {stream} something else than docs/MANUAL.md says:\n{given}")
 
 
-blocks = blocks_of(pathlib.Path(sys.argv[2]).read_text(encoding="utf-8"))
-if len(blocks) < 6:
-    sys.exit("manual: the worked day is missing")
+programs = {"grants": sys.argv[1], "convert-journal": sys.argv[2], "cat": "cat"}
+blocks = blocks_of(pathlib.Path(sys.argv[3]).read_text(encoding="utf-8"))
+if {block[0].split(" ")[1] for block in blocks} != set(programs):
+    sys.exit("manual: the worked day is missing, or the conversion of a journal")
 for block in blocks:
-    try_block(sys.argv[1], block)
+    try_block(programs, block)
 print(f"manual: {len(blocks)} commands print what docs/MANUAL.md says")

@@ -2,9 +2,10 @@
 
     make_slips.py SEED COUNT > slips      with tests/plain in PYTHONPATH
 
-Equal boxes, single points, ends at 0, 32767, 32768 and 65535; numbers that are live already, revokes of live and of dead numbers; the
-refusals 2 to 7 and 16, alone and together; 1,000 doors and 1,001, ranks 199 and 200; lines of another form of many kinds. From 2600
-slips on the book is filled once and listed whole, so that 6 comes too.
+Equal boxes, single points, ends at 0, 32767, 32768 and 65535; quarters that end where others begin, decisions at the first quarter, the last
+one and the one after it, and at 65535; numbers that are live already, revokes of live and of dead numbers; the refusals 2 to 7 and 16,
+alone and together, 2 for equal quarters too; 1,000 doors and 1,001, ranks 199 and 200; lines of another form of many kinds. From 2600 slips
+on the book is filled once and listed whole, so that 6 comes too.
 """
 import sys
 
@@ -37,7 +38,7 @@ class Slips:
         self.numbers = Numbers(seed)
         self.live = []
         self.dead = []
-        self.boxes = [(100, 199, 1, 40, 32, 63)]
+        self.boxes = [(100, 199, 1, 40, 32, 64)]
 
     # Values and boxes.
 
@@ -55,16 +56,36 @@ class Slips:
             return 0, 65535
         return tuple(sorted((self.value(), self.value())))
 
+    def quarters_from(self, start, apart):
+        """Quarters that start there, or at 65534 at the latest, and end so much later, or at 65535."""
+        start = min(start, 65534)
+        return start, min(start + apart, 65535)
+
+    def quarters(self):
+        first, last = self.ends()
+        return self.quarters_from(first, max(last - first, 1))
+
+    def before_or_after(self, box):
+        """The same box with quarters that end where it begins, or begin where it ends."""
+        first, last = box[4:]
+        if first > 0 and (last == 65535 or self.numbers.chance(50)):
+            return box[:4] + (first - 1 - self.numbers.below(min(first, 3)), first)
+        return box[:4] + self.quarters_from(last, 1 + self.numbers.below(3))
+
     def box(self):
-        if self.numbers.chance(25):
+        if self.numbers.chance(20):
             return self.numbers.one_of(self.boxes)
-        box = self.ends() + self.ends() + self.ends()
+        if self.numbers.chance(10):
+            box = self.before_or_after(self.numbers.one_of(self.boxes))
+        else:
+            box = self.ends() + self.ends() + self.quarters()
         self.boxes.append(box)
         return box
 
     def small_box(self):
-        at = [self.value() for _ in range(3)]
-        return tuple(v for x in at for v in (x, min(x + self.numbers.below(3), 65535)))
+        staff, door = self.value(), self.value()
+        small = (staff, min(staff + self.numbers.below(3), 65535), door, min(door + self.numbers.below(3), 65535))
+        return small + self.quarters_from(self.value(), 1 + self.numbers.below(3))
 
     def with_doors(self, box, apart):
         """The same box with other doors, the last of them so far behind the first."""
@@ -72,10 +93,12 @@ class Slips:
         return box[:2] + (first, first + apart) + box[4:]
 
     def turned(self, box):
-        """The same box with one range from above to."""
+        """The same box with one range from above to, or with quarters that end where they start."""
         turned = list(box)
         i = 2 * self.numbers.below(3)
         turned[i], turned[i + 1] = self.numbers.one_of([(1, 0), (65535, 65534), (32768, 32767), (65535, 0)])
+        if i == 4 and self.numbers.chance(50):
+            turned[5] = turned[4] = self.value()
         return tuple(turned)
 
     def fresh(self):
@@ -148,7 +171,8 @@ class Slips:
     def decide(self):
         if self.numbers.chance(60):
             box = self.numbers.one_of(self.boxes)
-            return "D %d %d %d" % tuple(box[i + self.numbers.below(2)] for i in (0, 2, 4))
+            staff, door = (box[i + self.numbers.below(2)] for i in (0, 2))
+            return "D %d %d %d" % (staff, door, self.numbers.one_of([box[4], box[5] - 1, box[5]]))
         return "D %d %d %d" % (self.value(), self.value(), self.value())
 
     def good(self):

@@ -29,12 +29,21 @@ static void fail(const char *why)
     exit(1);
 }
 
+/* The quarter at a point: one that a grant can cover, since none covers the last. */
+static uint16_t quarter(void)
+{
+    return point < TOP ? point : TOP - 1;
+}
+
 /* The calls, each with arguments that take it as far as the pool and the file let it go. */
 static void call_start(void) { answer = lg_start(pool, WORDS); }
-static void call_grant(void) { answer = lg_grant(pool, WORDS, number, 255, 1, point, point, point, point, point, point); }
+static void call_grant(void)
+{
+    answer = lg_grant(pool, WORDS, number, 255, 1, point, point, point, point, quarter(), quarter() + 1);
+}
 static void call_revoke(void) { answer = lg_revoke(pool, WORDS, number); }
 static void call_list(void) { answer = lg_list(pool, WORDS, 0, TOP, 0, TOP, 0, TOP, list, CELLS); }
-static void call_decide(void) { answer = lg_decide(pool, WORDS, point, point, point, decided); }
+static void call_decide(void) { answer = lg_decide(pool, WORDS, point, point, quarter(), decided); }
 static void call_count(void) { answer = lg_count(pool, WORDS); }
 static void call_write(void) { answer = lg_write(pool, WORDS, 0, TOP, bytes, FILE_BYTES); }
 static void call_load(void) { answer = lg_load(pool, WORDS, file, file_bytes); }
@@ -118,7 +127,7 @@ static void add(uint16_t n, const uint16_t box[6])
         fail("a grant was refused");
 }
 
-/* Fills the pool with grants of boxes at random, from a number on. */
+/* Fills the pool with grants of boxes at random, from a number on. Their quarters cover one at least. */
 static void fill_from(uint16_t n)
 {
     for (; LG_B(lg_count(pool, WORDS)) != 0; n++) {
@@ -127,6 +136,10 @@ static void fill_from(uint16_t n)
             uint16_t a = any(), b = any();
             box[i] = a < b ? a : b;
             box[i + 1] = a < b ? b : a;
+        }
+        if (box[4] == box[5]) {
+            box[4] = 0;
+            box[5] = TOP;
         }
         add(n, box);
     }
@@ -142,7 +155,7 @@ static void make_spread(void)
  * between two levels that halve the number; the last eight numbers share 13 bits and more. */
 static void make_deep(void)
 {
-    const uint16_t box[6] = {TOP, TOP, TOP, TOP, TOP, TOP};
+    const uint16_t box[6] = {TOP, TOP, TOP, TOP, TOP - 1, TOP};
     lg_start(pool, WORDS);
     for (int bits = 0; bits < 13; bits++)
         for (uint16_t i = 0; i < 7; i++)
@@ -160,8 +173,8 @@ static uint16_t *cell(unsigned k)
 /* Whether the way to a point, and to a number, goes right at a level. */
 static int goes_right(unsigned level)
 {
-    uint16_t coordinate = level % AXES == AXES - 1 ? number : point;
-    return coordinate >> (15 - level / AXES) & 1;
+    const uint16_t coordinates[AXES] = {point, point, quarter(), point, point, quarter() + 1, number};
+    return coordinates[level % AXES] >> (15 - level / AXES) & 1;
 }
 
 /* A scrambled pool: cells 1 to 113 hang below each other on the way to the point and the number, the last at level 112; the other
@@ -173,8 +186,10 @@ static void make_scrambled(int equal)
     pool[1] = 1;
     for (unsigned k = 1; k <= CELLS; k++) {
         uint16_t *words = cell(k);
-        for (int i = STAFF_FROM; i < CELL_WORDS; i++)
+        for (int i = STAFF_FROM; i < QUARTER_FROM; i++)
             words[i] = point;
+        words[QUARTER_FROM] = quarter();
+        words[QUARTER_TO] = quarter() + 1;
         words[NUMBER] = equal ? number : (uint16_t)(30000 - k);
         words[RANK_KIND] = any() & 511;
     }

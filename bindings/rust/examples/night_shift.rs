@@ -2,15 +2,16 @@
 //!
 //!     cargo run --example night_shift
 
-use locker_grants::{file, Bounds, Decision, Fault, Grant, Index, Kind, Match};
+use locker_grants::{file, Bounds, Decision, Fault, Grant, HalfOpen, Index, Kind, Match};
 
-/// Quarter-hours from the operator's base day: ten in the evening to six in the morning.
-const NIGHT: (u16, u16) = (88, 119);
+/// Quarter-hours from the operator's base day: ten in the evening until six in the morning, when the shift is over.
+const NIGHT: HalfOpen = HalfOpen { from: 88, until: 120 };
+const ALWAYS: HalfOpen = HalfOpen { from: 0, until: 65535 };
 
 const STAFF: Grant =
     Grant { number: 7, rank: 10, kind: Kind::Opens, bounds: Bounds { staff: (100, 199), doors: (1, 40), quarters: NIGHT } };
 const BARRED: Grant =
-    Grant { number: 3, rank: 20, kind: Kind::Bars, bounds: Bounds { staff: (150, 150), doors: (12, 12), quarters: (0, 65535) } };
+    Grant { number: 3, rank: 20, kind: Kind::Bars, bounds: Bounds { staff: (150, 150), doors: (12, 12), quarters: ALWAYS } };
 /// Corrects the first: at equal rank the higher number decides.
 const CORRECTION: Grant =
     Grant { number: 8, rank: 10, kind: Kind::Bars, bounds: Bounds { staff: (190, 199), doors: (1, 40), quarters: NIGHT } };

@@ -52,8 +52,8 @@ macro_rules! faults {
 faults! {
     /// the length is no pool's, or the first word is not the capacity.
     1 => BadPool, "not a pool";
-    /// a span of the box, or the doors to write, ends before it starts.
-    2 => Reversed, "a span ends before it starts";
+    /// staff or doors end before they start, or quarters cover nothing: their `from` is not below their `until`.
+    2 => Reversed, "a span ends before it starts, or quarters cover nothing";
     /// the grant number is 0.
     3 => ZeroNumber, "the grant number is 0";
     /// the kind is above 1.
@@ -70,7 +70,7 @@ faults! {
     9 => BrokenLinks, "the pool's links are broken";
     /// the file is not 1 to 68 whole blocks, or the block is not in it.
     10 => BadLength, "not 1 to 68 whole blocks, or no such block";
-    /// a block's mark, number, counts, door order or fill is wrong.
+    /// a block's mark, number, counts, door order or fill is wrong. A file of the older form, with closed quarters, has another mark.
     11 => BadLayout { block: u32 = b }, "block {block}: wrong mark, number, counts, door order or fill";
     /// a block's check is wrong.
     12 => BadChecksum { block: u32 = b }, "block {block}: wrong check";

@@ -20,12 +20,19 @@ impl Kind {
 /// From and to; both ends belong to it.
 pub type Span = (u16, u16);
 
-/// A box: spans of staff numbers, doors and quarter-hours.
+/// A half-open range of quarter-hours: `until` is the first that isn't covered. So 65534 is the last that can be.
+#[derive(Clone, Copy, Debug, PartialEq, Eq, Hash)]
+pub struct HalfOpen {
+    pub from: u16,
+    pub until: u16,
+}
+
+/// A box: spans of staff numbers and doors, and a half-open range of quarter-hours.
 #[derive(Clone, Copy, Debug, PartialEq, Eq, Hash)]
 pub struct Bounds {
     pub staff: Span,
     pub doors: Span,
-    pub quarters: Span,
+    pub quarters: HalfOpen,
 }
 
 /// A grant, whole.

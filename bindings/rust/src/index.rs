@@ -64,7 +64,7 @@ impl Index {
         Ok(numbers)
     }
 
-    /// What decides at a point.
+    /// What decides at a point; nothing does at quarter 65535.
     pub fn decide(&self, staff: u16, door: u16, quarter: u16) -> Result<Decision, Fault> {
         pool::decide(&self.words, staff, door, quarter)
     }

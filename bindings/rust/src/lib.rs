@@ -16,6 +16,6 @@ pub mod pool;
 
 pub use answer::{Count, Decision, Match};
 pub use fault::Fault;
-pub use grant::{Bounds, Grant, Kind, Span};
+pub use grant::{Bounds, Grant, HalfOpen, Kind, Span};
 pub use index::{BadCapacity, Index};
 pub use openings::{compare_openings, Comparison, Opening};

@@ -5,7 +5,7 @@
 use crate::answer::{unpack, Count, Decision, Match};
 use crate::fault::Fault;
 use crate::ffi;
-use crate::grant::{Bounds, Grant, Kind, Span};
+use crate::grant::{Bounds, Grant, HalfOpen, Kind, Span};
 
 /// How many words a pool of this capacity has.
 pub const fn words(capacity: u16) -> usize {
@@ -32,8 +32,8 @@ pub fn grant(pool: &mut [u16], number: u16, rank: u8, kind: u8, bounds: Bounds) 
             staff.1,
             doors.0,
             doors.1,
-            quarters.0,
-            quarters.1,
+            quarters.from,
+            quarters.until,
         )
     })
     .map(|_| ())
@@ -56,8 +56,8 @@ pub fn list(pool: &[u16], bounds: Bounds, list: &mut [u16]) -> Result<usize, Fau
             staff.1,
             doors.0,
             doors.1,
-            quarters.0,
-            quarters.1,
+            quarters.from,
+            quarters.until,
             list.as_mut_ptr(),
             list.len(),
         )
@@ -65,8 +65,8 @@ pub fn list(pool: &[u16], bounds: Bounds, list: &mut [u16]) -> Result<usize, Fau
     .map(|values| values.a as usize)
 }
 
-/// What decides at a point: the live grant of the highest rank that holds it, at equal rank the one of the highest number.
-/// Refuses 1 and 9, in this order.
+/// What decides at a point: the live grant of the highest rank that holds it, at equal rank the one of the highest number. None
+/// decides at quarter 65535, which no grant covers. Refuses 1 and, but for that quarter, 9, in this order.
 pub fn decide(pool: &[u16], staff: u16, door: u16, quarter: u16) -> Result<Decision, Fault> {
     decide_into(pool, staff, door, quarter, &mut [0; 10])
 }
@@ -84,12 +84,12 @@ pub fn decide_into(pool: &[u16], staff: u16, door: u16, quarter: u16, out: &mut 
 
 /// The grant in the ten words that decide wrote; its kind is the answer's.
 fn decided(kind: Kind, out: &[u16; 10]) -> Grant {
-    let [number, rank, _, staff_from, staff_to, door_from, door_to, quarter_from, quarter_to, _] = *out;
+    let [number, rank, _, staff_from, staff_to, door_from, door_to, from, until, _] = *out;
     Grant {
         number,
         rank: rank as u8,
         kind,
-        bounds: Bounds { staff: (staff_from, staff_to), doors: (door_from, door_to), quarters: (quarter_from, quarter_to) },
+        bounds: Bounds { staff: (staff_from, staff_to), doors: (door_from, door_to), quarters: HalfOpen { from, until } },
     }
 }
 

@@ -6,12 +6,13 @@
 -- Assumes nothing.
 use Prim.Native.Nat.{ℕ, _≤_}
 use mathlib.Core.Path.{_≡_, refl, sym, _∙_}
-use mathlib.Core.Bool.{Bool, true, false, _&&_, _||_, true≢false}
+use mathlib.Core.Bool.{Bool, true, false, cond, _&&_, _||_, true≢false}
 use mathlib.Core.List.{List, [], _∷_, map}
 use lib.Dec.{eqb·suc-zero}
 use lib.ListN.{length, getD}
 use native.Mathlib.Omega.{arith}
 use Rattle.lists.specs.Tests.{filter}
+use Rattle.model.specs.Quarters.{coverable}
 use Rattle.model.specs.Box.{pointBox}
 use Rattle.model.specs.Call.{Request}
 use Rattle.geometry.specs.Levels.{levels}
@@ -27,7 +28,7 @@ use Rattle.adt.specs.Links.{Link, brokenBy, searchLinks, isHit, hitsAmong}
 use Rattle.adt.proofs.SearchLinks.{Searched, search-broken-iff, search-going}
 use Rattle.adt.proofs.InsertionLinks.{brokenInsertion, descend-broken, freeBroken-links}
 use Rattle.adt.proofs.RemovalLinks.{brokenRemoval, terminalFrom-broken}
-use Rattle.calls.specs.Walks.{pointSearch, isBroken, hitsOf, removalOf}
+use Rattle.calls.specs.Walks.{noWalk, pointSearch, isBroken, hitsOf, removalOf}
 use Rattle.calls.specs.Causes.{numberLive, insertionBroken, removalBroken, grantBroken, revokeBroken}
 use Rattle.calls.specs.LinkCauses.{searchMeets9, pointMeets9, searchHits, grantMeets9, removalMeets9, revokeMeets9}
 
@@ -50,7 +51,14 @@ module _ (w : List ℕ) (q : Region) where
 
 pub pointBroken-links : (w : List ℕ) (staff door quarter : ℕ) → isBroken (pointSearch w staff door quarter) ≡ pointMeets9 w staff door quarter
 unfolding pointMeets9
-pointBroken-links w staff door quarter = isBroken-links w (rangeOfBox (pointBox staff door quarter))
+pointBroken-links w staff door quarter = go (coverable quarter)
+  where
+    q : Region
+    q = rangeOfBox (pointBox staff door quarter)
+
+    go : (t : Bool) → isBroken (cond t (search w q) noWalk) ≡ (t && searchMeets9 w q)
+    go true = isBroken-links w q
+    go false = refl
 
 insertionBroken-same : (way : InsertionWalk) → insertionBroken way ≡ brokenInsertion way
 insertionBroken-same insert.broken = refl

@@ -4,6 +4,7 @@
 --                          and these grants, sorted, are the live ones
 --   represents-pool, represents-capacity     no fault 1; C is the book's
 --   represents-cell, represents-fits         the grants in the cells of the tree, each in its cell; they fit
+--   live-faultless                           a live grant, asked for, has no fault
 --   represents-live, live-represents         the live grants are these
 --   live-distinct, represents-rises          their numbers differ, and ascend
 --   represents-count       live grants and free cells are C together
@@ -86,6 +87,11 @@ module _ {w : List ℕ} {b : Book} (h : Represents w b) where
 
   pub represents-live : (g : Grant) → List·Memᴰ g (b .live) → List·Memᴰ g (grantsOf w (h .tree))
   represents-live g m = sortBy-mem grantNumber (grantsOf w (h .tree)) (rw (h .live) m)
+
+  pub live-faultless : (g : Grant) → List·Memᴰ g (b .live) → NoneOf (requestCauses (requestOf g))
+  live-faultless g m =
+      let o = represents-cell g (represents-live g m) in
+      subst (λ (x : Grant). NoneOf (requestCauses (requestOf x))) (o .2) (h .carried (o .0) (o .1) .faultless)
 
   pub live-represents : (g : Grant) → List·Memᴰ g (grantsOf w (h .tree)) → List·Memᴰ g (b .live)
   live-represents g m = rw (h .live) at (mem-sortBy grantNumber m)

@@ -45,7 +45,7 @@ unfolding every
 defect-sound Sound t = refl
 defect-sound Length t = refl
 defect-sound (Checksum i) t = refl
-defect-sound (Mark i) t = refl
+defect-sound (Mark i older) t = refl
 defect-sound (BlockNumber i) t = refl
 defect-sound (TooManyGrants total) t = refl
 defect-sound (BlockCount total blocks) t = refl

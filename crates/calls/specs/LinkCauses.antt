@@ -1,7 +1,7 @@
 -- Fault 9 of each call as document 01 says it, from the links that its walks go through (adt/specs/Links), and the hits among them.
 -- Demand 1 cites these; the calls cite the walks that stop. Nothing here is taken from those: `numberLive` only says that there are hits.
 --   searchMeets9 w q, searchHits w q   of a search for the range q
---   pointMeets9 w staff door quarter   of decide's search
+--   pointMeets9 w staff door quarter   of decide: nothing is walked at a quarter that no grant can cover (document 02, card 2)
 --   freeMeets9 w                       the free head or its cell's left link, as grant reads them, is above C
 --   grantMeets9 w r                    grant: when the number isn't found, also the way down, the free head and its cell's left link
 --   revokeMeets9 w n                   revoke: when it is found, also the removal walk from the first hit, at its own level
@@ -11,6 +11,7 @@ use mathlib.Core.Bool.{Bool, false, not, _&&_, _||_}
 use mathlib.Core.List.{List, [], _∷_}
 use lib.Dec.{ltb}
 use Rattle.lists.specs.Tests.{filter, any}
+use Rattle.model.specs.Quarters.{coverable}
 use Rattle.model.specs.Box.{pointBox}
 use Rattle.model.specs.Call.{Request, requested}
 use Rattle.geometry.specs.Region.{Region}
@@ -27,7 +28,7 @@ unfoldable pub searchHits : List ℕ → Region → List ℕ
 searchHits w q = hitsAmong w q (searchLinks w q)
 
 unfoldable pub pointMeets9 : List ℕ → ℕ → ℕ → ℕ → Bool
-pointMeets9 w staff door quarter = searchMeets9 w (rangeOfBox (pointBox staff door quarter))
+pointMeets9 w staff door quarter = coverable quarter && searchMeets9 w (rangeOfBox (pointBox staff door quarter))
 
 abbrev pub freeMeets9 : List ℕ → Bool
 freeMeets9 w = any (ltb (capacityOf w)) (freeLinks w)

@@ -1,17 +1,19 @@
 -- The walks of a call (document 01, "The walks of a call"), and what a call takes from them.
---   boxSearch, pointSearch, numberSearch, fullSearch, doorSearch    what is searched for
+--   boxSearch, quarterSearch, pointSearch, numberSearch, fullSearch, doorSearch    what is searched for
+--   noWalk                            a search of nothing
 --   isBroken, hitsOf, firstHit        of a search: it met a cause of 9; its hits' cells in order; the first of them and its spot
 --   grantsHit w s                     the grants in the hits' cells, in their order
 --   insertionWalk w r                    grant's way down
 --   removalOf w s                     the removal walk from the first hit of a search; from cell 0 where there is none
 -- A broken search has no hits. Assumes nothing: these are definitions.
 use Prim.Native.Nat.{ℕ}
-use mathlib.Core.Bool.{Bool, true, false}
+use mathlib.Core.Bool.{Bool, true, false, cond}
 use mathlib.Core.List.{List, [], map}
 use lib.ListN.{getD}
 use Rattle.model.specs.declared.Box.{Box}
 use Rattle.model.specs.declared.Grant.{Grant}
 use Rattle.model.specs.Interval.{Interval}
+use Rattle.model.specs.Quarters.{coverable}
 use Rattle.model.specs.Box.{pointBox}
 use Rattle.model.specs.Call.{Request, requested}
 use Rattle.geometry.specs.Point.{pointOf}
@@ -25,9 +27,17 @@ use Rattle.adt.specs.Remove.{RemovalWalk, terminalFrom}
 abbrev pub boxSearch : List ℕ → Box → Search
 boxSearch w q = search w (rangeOfBox q)
 
+-- nothing is walked
+abbrev pub noWalk : Search
+noWalk = going 0 [] nowhere
+
+-- a box of one quarter is searched where a grant can cover the quarter (document 02, card 2)
+abbrev pub quarterSearch : List ℕ → Box → Search
+quarterSearch w q = cond (coverable (q .«quarter_from»)) (boxSearch w q) noWalk
+
 -- decide searches its point
 abbrev pub pointSearch : List ℕ → ℕ → ℕ → ℕ → Search
-pointSearch w staff door quarter = search w (rangeOfBox (pointBox staff door quarter))
+pointSearch w staff door quarter = quarterSearch w (pointBox staff door quarter)
 
 -- write and match search the doors with the staff and quarter axes free
 abbrev pub doorSearch : List ℕ → Interval → Search

@@ -1,4 +1,5 @@
 -- Demand 2: a hit is condition (5); the accepted files; load, match, one byte changed; the parts that block read hands back.
+--   refused-boxes             a box with fault 2 is refused by list
 --   writer-makes              write gives the file of a set that was granted in any order
 --   one-byte-refused          an accepted file with one byte changed
 --   parts, refused-parts      what block read hands back, of an accepted file and of a refused block
@@ -6,18 +7,22 @@
 -- Assumes nothing.
 use Prim.Native.Nat.{ℕ, zero, suc, _/_, _≤_, _<_}
 use mathlib.Core.Logic.{_≢_}
-use mathlib.Core.Path.{_≡_}
-use mathlib.Core.Bool.{cond}
-use mathlib.Core.List.{List, [], flatMap}
+use mathlib.Core.Path.{_≡_, refl}
+use mathlib.Core.Bool.{true, cond}
+use mathlib.Core.List.{List, [], _∷_, flatMap}
 use mathlib.Core.Option.{none}
 use native.Mathlib.Omega.{arith}
 use lib.ListN.{length, getD, set}
+use Rattle.model.specs.declared.Box.{Box}
 use Rattle.model.specs.declared.Grant.{Grant}
-use Rattle.model.specs.declared.Fault.the-variants.{BadPool, BadChecksum}
+use Rattle.model.specs.declared.Fault.the-variants.{BadPool, Reversed, BadChecksum}
 use Rattle.model.specs.Interval.{Interval}
 use Rattle.model.specs.Answer.{accepted, refusal}
-use Rattle.model.specs.Refusal.{firstFault, refusing}
+use Rattle.model.specs.Refusal.{_if_, firstFault, refusing}
+use Rattle.model.specs.Arguments.{reversedBox}
 use Rattle.model.specs.Values.{byteValues, Below}
+use Rattle.model.proofs.RefusalLaws.{refusing-front}
+use Rattle.model.proofs.QuarterLaws.{forward-quarters}
 use Rattle.geometry.proofs.SearchRangeLaws.{box-hits-iff}
 use Rattle.pool.specs.Capacity.{wrongLength, wrongPool}
 use Rattle.grants_file.specs.Layout.{blockBytes}
@@ -30,7 +35,8 @@ use Rattle.grants_file.proofs.VerdictLaws.{accepted-files}
 use Rattle.grants_file.proofs.OneByteLaws.{one-byte}
 use Rattle.block_read.proofs.PartLaws.{passes-read, part-first, part-grants, part-refusal}
 use Rattle.grants_file.proofs.SetLaws.{set-touching}
-use Rattle.calls.specs.Calls.{startCall}
+use Rattle.calls.specs.Order.{listOrder}
+use Rattle.calls.specs.Calls.{startCall, listCall}
 use Rattle.calls.specs.FileCalls.{grantAll, loadCall, matchCall}
 use Rattle.calls.proofs.StartLaws.{start-sized}
 use Rattle.calls.proofs.LoadLaws.{set-represents, load-refuses}
@@ -40,6 +46,11 @@ use Rattle.claims.specs.KeepsGrants.{Writes}
 use Rattle.claims.specs.Claims.{MadePools, Demand2}
 use Rattle.claims.proofs.MadeLaws.{made-calls, set-accepted, made-set}
 use Rattle.claims.proofs.KeepsLaws.{files-written, made-pools}
+
+pub refused-boxes : (w : List ℕ) (q : Box) (lent : List ℕ) → reversedBox q ≡ true
+    → listCall w q lent .answer ≡ cond (wrongPool w) (refusal BadPool) (refusal Reversed)
+unfolding listCall listOrder firstFault
+refused-boxes w q lent reversed = refusing-front _ (Reversed if reversedBox q ∷ []) _ w lent _ Reversed (rw reversed refl)
 
 pub writer-makes : (doors : Interval) (gs hs : List Grant) (c : ℕ) (memory : List ℕ) → FileSet doors gs → Ordering gs hs → Memory c memory → length gs ≤ c
     → Writes (grantAll (startCall memory .state) hs) doors (fileOf doors gs)
@@ -82,7 +93,8 @@ pub demand2 : Demand2
 unfolding MadePools
 demand2 =
     record {
-      hits = λ g q fits. box-hits-iff g fits q;
+      hits = λ g q fits forward. box-hits-iff g fits q (forward-quarters q forward);
+      refused-boxes = refused-boxes;
       lists = λ c memory calls m fit. made-pools _ _ _ (made-calls m calls fit) .lists;
       decisions = λ c memory calls m fit. made-pools _ _ _ (made-calls m calls fit) .decisions;
       matches = λ c memory calls m fit. made-pools _ _ _ (made-calls m calls fit) .matches;

@@ -4,7 +4,7 @@
 --   lentCases     14
 use Prim.Native.Nat.{ℕ, _-_, _*_}
 use mathlib.Core.List.{List, [], _∷_, _++_}
-use lib.ListN.{take, replicate}
+use lib.ListN.{take, drop, replicate}
 use Rattle.model.specs.declared.Grant.{Grant}
 use Rattle.model.specs.declared.Kind.the-variants.{Bars}
 use Rattle.model.specs.Interval.{Interval}
@@ -63,13 +63,17 @@ readAt f i = responses (blockCall f i .answer)
 -- two grants that touch the doors
 abbrev pair : List Grant
 pair =
-    record { number = 1; rank = 0; kind = Bars; bounds = box 0 0 40 40 0 0 }
-    ∷ record { number = 2; rank = 0; kind = Bars; bounds = box 0 0 50 50 0 0 }
+    record { number = 1; rank = 0; kind = Bars; bounds = box 0 0 40 40 0 1 }
+    ∷ record { number = 2; rank = 0; kind = Bars; bounds = box 0 0 50 50 0 1 }
     ∷ []
 
 -- a block 0 whose bytes from the mark's last on are these, with its check
 abbrev header : List ℕ → List ℕ
 header bytes = sealed (0x4C ∷ 0x47 ∷ 0x46 ∷ bytes)
+
+-- a block 1 of the older form, with one record
+abbrev olderBlock : List ℕ
+olderBlock = sealed (0x4C ∷ 0x47 ∷ 0x46 ∷ 0x31 ∷ drop 4 (take 24 (recordBlock 1 (take 1 pair))))
 
 abbrev pub fileCases : List Case
 fileCases =
@@ -82,17 +86,21 @@ fileCases =
     ∷ record { given = readAt (replicate (69 * 512) 0) 0; wanted = one 10 }
     ∷ record { given = readAt (fileOf doors pair) 1; wanted = one 0 }
     ∷ record { given = readAt (fileOf doors pair) 2; wanted = one 10 }
-    -- 11: as it should be; the mark; the block's number; the doors; the fill
-    ∷ record { given = judged (header (0x31 ∷ 0 ∷ 0 ∷ 0 ∷ 0 ∷ 0 ∷ 40 ∷ 0 ∷ 50 ∷ [])); wanted = 0 ∷ 0 ∷ [] }
-    ∷ record { given = judged (header (0x32 ∷ 0 ∷ 0 ∷ 0 ∷ 0 ∷ 0 ∷ 40 ∷ 0 ∷ 50 ∷ [])); wanted = 11 ∷ 0 ∷ 11 ∷ 0 ∷ [] }
-    ∷ record { given = judged (header (0x31 ∷ 0 ∷ 1 ∷ 0 ∷ 0 ∷ 0 ∷ 40 ∷ 0 ∷ 50 ∷ [])); wanted = 11 ∷ 0 ∷ 11 ∷ 0 ∷ [] }
-    ∷ record { given = judged (header (0x31 ∷ 0 ∷ 0 ∷ 0 ∷ 0 ∷ 0 ∷ 51 ∷ 0 ∷ 50 ∷ [])); wanted = 11 ∷ 0 ∷ 11 ∷ 0 ∷ [] }
-    ∷ record { given = judged (header (0x31 ∷ 0 ∷ 0 ∷ 0 ∷ 0 ∷ 0 ∷ 40 ∷ 0 ∷ 50 ∷ 1 ∷ [])); wanted = 11 ∷ 0 ∷ 11 ∷ 0 ∷ [] }
+    -- 11: as it should be; the mark of the older form, and another; the block's number; the doors; the fill
+    ∷ record { given = judged (header (0x32 ∷ 0 ∷ 0 ∷ 0 ∷ 0 ∷ 0 ∷ 40 ∷ 0 ∷ 50 ∷ [])); wanted = 0 ∷ 0 ∷ [] }
+    ∷ record { given = judged (header (0x31 ∷ 0 ∷ 0 ∷ 0 ∷ 0 ∷ 0 ∷ 40 ∷ 0 ∷ 50 ∷ [])); wanted = 11 ∷ 0 ∷ 11 ∷ 0 ∷ [] }
+    ∷ record { given = judged (header (0x33 ∷ 0 ∷ 0 ∷ 0 ∷ 0 ∷ 0 ∷ 40 ∷ 0 ∷ 50 ∷ [])); wanted = 11 ∷ 0 ∷ 11 ∷ 0 ∷ [] }
+    ∷ record { given = judged (header (0x32 ∷ 0 ∷ 1 ∷ 0 ∷ 0 ∷ 0 ∷ 40 ∷ 0 ∷ 50 ∷ [])); wanted = 11 ∷ 0 ∷ 11 ∷ 0 ∷ [] }
+    ∷ record { given = judged (header (0x32 ∷ 0 ∷ 0 ∷ 0 ∷ 0 ∷ 0 ∷ 51 ∷ 0 ∷ 50 ∷ [])); wanted = 11 ∷ 0 ∷ 11 ∷ 0 ∷ [] }
+    ∷ record { given = judged (header (0x32 ∷ 0 ∷ 0 ∷ 0 ∷ 0 ∷ 0 ∷ 40 ∷ 0 ∷ 50 ∷ 1 ∷ [])); wanted = 11 ∷ 0 ∷ 11 ∷ 0 ∷ [] }
     -- n against the block count; n above 2,048, both of 68 blocks; a block's records against n
-    ∷ record { given = judged (header (0x31 ∷ 0 ∷ 0 ∷ 0 ∷ 1 ∷ 0 ∷ 40 ∷ 0 ∷ 50 ∷ [])); wanted = 11 ∷ 0 ∷ 11 ∷ 0 ∷ [] }
+    ∷ record { given = judged (header (0x32 ∷ 0 ∷ 0 ∷ 0 ∷ 1 ∷ 0 ∷ 40 ∷ 0 ∷ 50 ∷ [])); wanted = 11 ∷ 0 ∷ 11 ∷ 0 ∷ [] }
     ∷ record { given = judged (headerBlock 2048 doors ++ replicate (67 * 512) 0); wanted = 12 ∷ 1 ∷ 12 ∷ 1 ∷ [] }
     ∷ record { given = judged (headerBlock 2049 doors ++ replicate (67 * 512) 0); wanted = 11 ∷ 0 ∷ 11 ∷ 0 ∷ [] }
     ∷ record { given = judged (headerBlock 2 doors ++ recordBlock 1 (take 1 pair)); wanted = 11 ∷ 1 ∷ 11 ∷ 1 ∷ [] }
+    -- the older form in a later block, in load, match and block read
+    ∷ record { given = judged (headerBlock 1 doors ++ olderBlock); wanted = 11 ∷ 1 ∷ 11 ∷ 1 ∷ [] }
+    ∷ record { given = readAt (headerBlock 1 doors ++ olderBlock) 1; wanted = 11 ∷ 1 ∷ [] }
     -- block read does not know n: 1 to 31 records in the last block, 31 before it
     ∷ record { given = readAt (headerBlock 2 doors ++ recordBlock 1 (take 1 pair)) 1; wanted = one 0 }
     ∷ record { given = readAt (headerBlock 2 doors ++ recordBlock 1 []) 1; wanted = 11 ∷ 1 ∷ [] }

@@ -5,10 +5,12 @@ pub mod Pools
 pub mod LinkCases
 pub mod FaultCases
 pub mod SeniorCases
+pub mod QuarterCases
 pub mod TriedCases
 pub mod MadeLaws
 pub mod KeepsLaws
 pub mod SeniorLaws
+pub mod HalfOpenLaws
 pub mod OpeningsLaws
 pub mod RecordCases
 pub mod Demand1

@@ -17,8 +17,8 @@ use Rattle.grants_file.specs.File.{fileOf}
 use Rattle.calls.specs.LinkCauses.{searchMeets9, pointMeets9, grantMeets9, revokeMeets9}
 use Rattle.calls.specs.Calls.{grantCall, revokeCall, listCall, decideCall, countCall}
 use Rattle.calls.specs.FileCalls.{writeCall, matchCall}
-use Rattle.claims.proofs.Cases.{Case, box, one, test, responses}
-use Rattle.claims.proofs.Pools.{node, chain, pool}
+use Rattle.claims.proofs.Cases.{Case, box, test, responses}
+use Rattle.claims.proofs.Pools.{node, timed, chain, pool}
 
 -- 9 by the links, then the answer
 abbrev granted : List ℕ → Request → List ℕ
@@ -44,9 +44,9 @@ written w doors lent = test (searchMeets9 w (rangeOfDoors doors)) ++ responses (
 abbrev matched : List ℕ → Interval → List ℕ
 matched w doors = test (searchMeets9 w (rangeOfDoors doors)) ++ responses (matchCall w (fileOf doors []) .answer)
 
--- a grant of the number whose box has this value at every end
-abbrev request : ℕ → ℕ → Request
-request number x = record { number = number; rank = 0; kind = 0; bounds = box x x x x x x }
+-- a grant of the number for the least box that has a point
+abbrev request : ℕ → Request
+request number = record { number = number; rank = 0; kind = 0; bounds = box 0 0 0 0 0 1 }
 
 -- Seven cells in a ring, one for each axis, each on the right of the one before; the seventh, where the numbers are halved, has the link x on
 -- its left. Of 65534 only the last bit is 0: its walk goes round 16 times, and the last halving, at level 111, leads it through x.
@@ -54,17 +54,22 @@ request number x = record { number = number; rank = 0; kind = 0; bounds = box x 
 abbrev ring : ℕ → ℕ → List ℕ → List ℕ
 ring free x eighth = pool 140 1 free (chain Right 6 1 ++ node x 1 0 ++ eighth)
 
--- a blank link below level 111
-abbrev shallow : ℕ → List ℕ
-shallow free = ring free 0 []
-
 -- a cell at level 112 with the links l and r and the number n
 abbrev deep : ℕ → ℕ → ℕ → ℕ → List ℕ
 deep free l r n = ring free 8 (node l r n)
 
--- it goes to the right all the way, but at level 111
-abbrev round : Request
-round = request 65534 65535
+-- 112 cells on the way of the least box and the number 1: to the left, but for the quarter to at level 110 and the number at level 111, where
+-- the last cell has the link x on its right
+abbrev straight : ℕ → ℕ → List ℕ → List ℕ
+straight free x last = pool 120 1 free (chain Left 110 1 ++ node 0 112 0 ++ node 0 x 0 ++ last)
+
+-- a blank link below level 111
+abbrev shallow : ℕ → List ℕ
+shallow free = straight free 0 []
+
+-- a cell at level 112 with the links l and r and the number n
+abbrev bottom : ℕ → ℕ → ℕ → ℕ → List ℕ
+bottom free l r n = straight free 113 (node l r n)
 
 abbrev pub deepCases : List Case
 deepCases =
@@ -74,22 +79,25 @@ deepCases =
     -- a link of it that isn't 0, on either side, leads below
     ∷ record { given = revoked (deep 0 1 0 0) 65534; wanted = 1 ∷ 1 ∷ 9 ∷ [] }
     ∷ record { given = revoked (deep 0 0 1 0) 65534; wanted = 1 ∷ 1 ∷ 9 ∷ [] }
-    -- where all numbers are searched, the walk meets the first cell again at level 112, and that has a link
-    ∷ record { given = listed (deep 0 0 0 0) (box 65535 65535 65535 65535 65535 65535) []; wanted = 1 ∷ 9 ∷ [] }
-    ∷ record { given = decided (deep 0 0 0 0) 65535 65535 65535; wanted = 1 ∷ 9 ∷ [] }
+    -- list and decide come to such a cell too
+    ∷ record { given = listed (bottom 0 0 0 0) (box 0 0 0 0 0 1) []; wanted = 0 ∷ 0 ∷ 0 ∷ [] }
+    ∷ record { given = listed (bottom 0 1 0 0) (box 0 0 0 0 0 1) []; wanted = 1 ∷ 9 ∷ [] }
+    ∷ record { given = decided (bottom 0 0 0 0) 0 0 0; wanted = 0 ∷ 0 ∷ 0 ∷ [] }
+    ∷ record { given = decided (bottom 0 0 1 0) 0 0 0; wanted = 1 ∷ 9 ∷ [] }
+    -- where everything is searched, the walk meets the first cell of the ring again at level 112, and that has a link
     ∷ record { given = counted (deep 0 0 0 0); wanted = 1 ∷ 9 ∷ [] }
     -- grant's way down: the blank link below level 111 will do, a cell at level 112 will not; with no free cell 6 comes after that
-    ∷ record { given = granted (shallow 140) round; wanted = 0 ∷ 0 ∷ [] }
-    ∷ record { given = granted (shallow 0) round; wanted = 0 ∷ 6 ∷ [] }
-    ∷ record { given = granted (deep 140 0 0 0) round; wanted = 1 ∷ 9 ∷ [] }
-    ∷ record { given = granted (deep 0 0 0 0) round; wanted = 1 ∷ 9 ∷ [] }
+    ∷ record { given = granted (shallow 120) (request 1); wanted = 0 ∷ 0 ∷ [] }
+    ∷ record { given = granted (shallow 0) (request 1); wanted = 0 ∷ 6 ∷ [] }
+    ∷ record { given = granted (bottom 120 0 0 0) (request 1); wanted = 1 ∷ 9 ∷ [] }
+    ∷ record { given = granted (bottom 0 0 0 0) (request 1); wanted = 1 ∷ 9 ∷ [] }
     -- a number that is found: there is no way down
-    ∷ record { given = granted (deep 0 0 0 65534) round; wanted = 0 ∷ 5 ∷ [] }
+    ∷ record { given = granted (bottom 0 0 0 1) (request 1); wanted = 0 ∷ 5 ∷ [] }
     ∷ []
 
 -- a cell with the number 7, and behind it on the right, from staff 32768 on, a link above C
 abbrev stray : List ℕ
-stray = pool 3 1 2 (node 0 4 7)
+stray = pool 3 1 2 (timed 0 4 7)
 
 -- seven cells to the left; the last is at level 6, which halves the numbers, and has the links l and r; the first has the number n
 abbrev seventh : ℕ → ℕ → ℕ → ℕ → List ℕ
@@ -105,8 +113,8 @@ strayCases =
     -- a link above 7 cells to the right of level 6: the numbers from 32768 on
     ∷ record { given = revoked (seventh 7 0 0 8) 32767; wanted = 0 ∷ 0 ∷ 7 ∷ [] }
     ∷ record { given = revoked (seventh 7 0 0 8) 32768; wanted = 1 ∷ 1 ∷ 9 ∷ [] }
-    ∷ record { given = granted (seventh 7 0 0 8) (request 32767 0); wanted = 0 ∷ 6 ∷ [] }
-    ∷ record { given = granted (seventh 7 0 0 8) (request 32768 0); wanted = 1 ∷ 9 ∷ [] }
+    ∷ record { given = granted (seventh 7 0 0 8) (request 32767); wanted = 0 ∷ 6 ∷ [] }
+    ∷ record { given = granted (seventh 7 0 0 8) (request 32768); wanted = 1 ∷ 9 ∷ [] }
     ∷ []
 
 -- the number 7 in the first of three cells; the third has the links l and r
@@ -115,14 +123,14 @@ threeCells free l r = pool 3 1 free (node 0 0 7 ++ node 0 0 0 ++ node l r 0)
 
 abbrev pub freeCases : List Case
 freeCases =
-    record { given = granted (threeCells 4 0 0) (request 8 0); wanted = 1 ∷ 9 ∷ [] }
-    ∷ record { given = granted (threeCells 3 4 0) (request 8 0); wanted = 1 ∷ 9 ∷ [] }
-    ∷ record { given = granted (threeCells 3 3 0) (request 8 0); wanted = 0 ∷ 0 ∷ [] }
+    record { given = granted (threeCells 4 0 0) (request 8); wanted = 1 ∷ 9 ∷ [] }
+    ∷ record { given = granted (threeCells 3 4 0) (request 8); wanted = 1 ∷ 9 ∷ [] }
+    ∷ record { given = granted (threeCells 3 3 0) (request 8); wanted = 0 ∷ 0 ∷ [] }
     -- nothing else of the free cell matters; with the free head 0 no cell is read
-    ∷ record { given = granted (threeCells 3 0 4) (request 8 0); wanted = 0 ∷ 0 ∷ [] }
-    ∷ record { given = granted (threeCells 0 4 4) (request 8 0); wanted = 0 ∷ 6 ∷ [] }
+    ∷ record { given = granted (threeCells 3 0 4) (request 8); wanted = 0 ∷ 0 ∷ [] }
+    ∷ record { given = granted (threeCells 0 4 4) (request 8); wanted = 0 ∷ 6 ∷ [] }
     -- where the number is found, and in other calls, the free head is not read as a link
-    ∷ record { given = granted (threeCells 4 0 0) (request 7 0); wanted = 0 ∷ 5 ∷ [] }
+    ∷ record { given = granted (threeCells 4 0 0) (request 7); wanted = 0 ∷ 5 ∷ [] }
     ∷ record { given = revoked (threeCells 4 0 0) 7; wanted = 0 ∷ 0 ∷ 0 ∷ [] }
     ∷ record { given = counted (threeCells 4 0 0); wanted = 0 ∷ 0 ∷ 1 ∷ 2 ∷ [] }
     ∷ []
@@ -157,7 +165,7 @@ removalCases =
 
 -- four meetings: the cells 1, 2, 3, and 2 again behind 3
 abbrev four : ℕ → ℕ → List ℕ
-four c free = pool c 1 free (node 2 3 0 ++ node 0 0 0 ++ node 2 0 0)
+four c free = pool c 1 free (timed 2 3 0 ++ timed 0 0 0 ++ timed 2 0 0)
 
 abbrev pub manyCases : List Case
 manyCases =
@@ -166,20 +174,20 @@ manyCases =
     ∷ record { given = revoked (four 4 0) 8; wanted = 0 ∷ 0 ∷ 7 ∷ [] }
     ∷ record { given = revoked (four 3 0) 8; wanted = 1 ∷ 1 ∷ 9 ∷ [] }
     -- each walk counts its own: the search met four, the way down meets two more, and the free head's cell isn't counted
-    ∷ record { given = granted (four 4 4) (request 8 0); wanted = 0 ∷ 0 ∷ [] }
-    ∷ record { given = granted (four 3 3) (request 8 0); wanted = 1 ∷ 9 ∷ [] }
+    ∷ record { given = granted (four 4 4) (request 8); wanted = 0 ∷ 0 ∷ [] }
+    ∷ record { given = granted (four 3 3) (request 8); wanted = 1 ∷ 9 ∷ [] }
     -- 8 goes by the hits, one each time that a cell is met
     ∷ record { given = listed (four 4 0) (box 0 65535 0 65535 0 65535) (0 ∷ 0 ∷ 0 ∷ []); wanted = 0 ∷ 8 ∷ 4 ∷ [] }
     ∷ []
 
 abbrev everyone : List ℕ → List ℕ
 everyone w =
-    listed w (box 0 0 0 0 0 0) []
+    listed w (box 0 0 0 0 0 1) []
     ++ decided w 0 0 0
     ++ counted w
     ++ written w (record { from = 0; to = 0 }) []
     ++ matched w (record { from = 0; to = 0 })
-    ++ granted w (request 8 0)
+    ++ granted w (request 8)
     ++ revoked w 8
 
 abbrev pub rootCases : List Case
@@ -188,12 +196,12 @@ rootCases =
       given = everyone (pool 3 4 1 []);
       wanted = 1 ∷ 9 ∷ 1 ∷ 9 ∷ 1 ∷ 9 ∷ 1 ∷ 9 ∷ 1 ∷ 9 ∷ 1 ∷ 9 ∷ 1 ∷ 1 ∷ 9 ∷ [];
     }
-    -- C is no cause: one cell of zeros, which all but the number's search hit
+    -- C is no cause: one cell, which all but the number's search hit
     ∷ record {
-      given = everyone (pool 3 3 1 []);
+      given = everyone (pool 3 3 1 (node 0 0 0 ++ node 0 0 0 ++ timed 0 0 0));
       wanted =
           0 ∷ 8 ∷ 1
-          ∷ 0 ∷ 0 ∷ 2 ∷ 0 ∷ 0 ∷ 0 ∷ 0 ∷ 0 ∷ 0 ∷ 0 ∷ 0 ∷ 0
+          ∷ 0 ∷ 0 ∷ 2 ∷ 0 ∷ 0 ∷ 0 ∷ 0 ∷ 0 ∷ 0 ∷ 0 ∷ 0 ∷ 1
           ∷ 0 ∷ 0 ∷ 1 ∷ 2
           ∷ 0 ∷ 14 ∷ 1024
           ∷ 0 ∷ 0 ∷ 0

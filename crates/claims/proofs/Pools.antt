@@ -1,5 +1,6 @@
 -- Small pools for the tables, word by word (document 01, "The tree"), most of them scrambled. Assumes nothing.
---   node left right number     a cell with these links and this number, zeros elsewhere
+--   node left right number     a cell with these links and this number, zeros elsewhere; no box with a quarter in it overlaps such a cell
+--   timed left right number    the same with quarters 0 1
 --   chain s n k                n cells from the cell k on, each with its link on the side s to the one after it
 --   pool c root free cells     the words of a pool of c cells; `cells` are the first of them, the others are zeros
 use Prim.Native.Nat.{ℕ, zero, suc, _-_, _*_}
@@ -10,6 +11,9 @@ use Rattle.geometry.specs.declared.Side.the-variants.{Left, Right}
 
 abbrev pub node : ℕ → ℕ → ℕ → List ℕ
 node left right number = left ∷ right ∷ number ∷ replicate 7 0
+
+abbrev pub timed : ℕ → ℕ → ℕ → List ℕ
+timed left right number = left ∷ right ∷ number ∷ replicate 6 0 ++ (1 ∷ [])
 
 abbrev pub nodeTo : Side → ℕ → List ℕ
 nodeTo Left k = node k 0 0

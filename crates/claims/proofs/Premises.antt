@@ -104,6 +104,11 @@ grant-met =
 pub calls-met : CallsFit calls
 calls-met = both CallFits (requestOf-fits (grant-met seven (List·Memᴰ·head refl))) (requestOf-fits (grant-met broken (List·Memᴰ·tail (List·Memᴰ·head refl))))
 
+-- a box that fault 2 lets through, and one with equal quarters
+pub box-met : (reversedBox (box 0 65535 1 40 0 65535) ≡ false) × (reversedBox (box 0 65535 1 40 5 5) ≡ true)
+unfolding reversedBox
+box-met = (refl, refl)
+
 pub memory-met : Memory 2 memory
 memory-met = record { some = omega arith; few = omega arith; long = refl }
 

@@ -21,7 +21,7 @@ use Rattle.claims.proofs.Pools.{pool}
 
 -- a request for the doors from, to
 abbrev asked : ℕ → ℕ → ℕ → ℕ → ℕ → Request
-asked number rank kind from to = record { number = number; rank = rank; kind = kind; bounds = box 0 0 from to 0 0 }
+asked number rank kind from to = record { number = number; rank = rank; kind = kind; bounds = box 0 0 from to 0 1 }
 
 abbrev fresh : List ℕ
 fresh = startCall (replicate 13 9) .state
@@ -59,7 +59,7 @@ orderCases =
     record { given = responses (grantCall (replicate 12 1) (asked 5 0 1 0 1000) .answer); wanted = one 1 }
     ∷ record { given = granted (asked 0 0 1 0 1000); wanted = 3 ∷ 3 ∷ [] }
     ∷ record { given = granted (asked 5 0 2 0 1000); wanted = 4 ∷ 4 ∷ [] }
-    ∷ record { given = granted (record { number = 5; rank = 0; kind = 1; bounds = box 1 0 0 1000 0 0 }); wanted = 2 ∷ 2 ∷ [] }
+    ∷ record { given = granted (record { number = 5; rank = 0; kind = 1; bounds = box 1 0 0 1000 0 1 }); wanted = 2 ∷ 2 ∷ [] }
     ∷ record { given = granted (record { number = 5; rank = 0; kind = 1; bounds = box 0 0 0 1000 1 0 }); wanted = 2 ∷ 2 ∷ [] }
     ∷ record { given = granted (asked 5 0 1 1000 0); wanted = 2 ∷ 2 ∷ [] }
     -- 9, 5 and 6, each with a grant that is refused with 16, and with one that is not
@@ -75,7 +75,7 @@ orderCases =
 
 -- a grant of this rank, from door 40 on
 abbrev from40 : ℕ → ℕ → Grant
-from40 rank to = record { number = 5; rank = rank; kind = Opens; bounds = box 0 0 40 to 0 0 }
+from40 rank to = record { number = 5; rank = rank; kind = Opens; bounds = box 0 0 40 to 0 1 }
 
 abbrev doors : Interval
 doors = record { from = 40; to = 50 }
@@ -96,17 +96,17 @@ recordCases =
 
 -- a cell with the grant 5: it opens all doors to one staff number at rank 3
 abbrev wide : List ℕ
-wide = pool 1 1 0 (0 ∷ 0 ∷ 5 ∷ 7 ∷ 8 ∷ 8 ∷ 0 ∷ 65535 ∷ 2 ∷ 2 ∷ [])
+wide = pool 1 1 0 (0 ∷ 0 ∷ 5 ∷ 7 ∷ 8 ∷ 8 ∷ 0 ∷ 65535 ∷ 2 ∷ 3 ∷ [])
 
 abbrev cellCases : List Case
 cellCases =
-    record { given = let s = listCall wide (box 8 8 40 40 2 2) (9 ∷ 9 ∷ []) in responses (s .answer) ++ s .lent; wanted = 0 ∷ 1 ∷ 5 ∷ 9 ∷ [] }
-    ∷ record { given = responses (decideCall wide 8 40 2 .answer); wanted = 0 ∷ 1 ∷ 5 ∷ 3 ∷ 1 ∷ 8 ∷ 8 ∷ 0 ∷ 65535 ∷ 2 ∷ 2 ∷ [] }
+    record { given = let s = listCall wide (box 8 8 40 40 2 3) (9 ∷ 9 ∷ []) in responses (s .answer) ++ s .lent; wanted = 0 ∷ 1 ∷ 5 ∷ 9 ∷ [] }
+    ∷ record { given = responses (decideCall wide 8 40 2 .answer); wanted = 0 ∷ 1 ∷ 5 ∷ 3 ∷ 1 ∷ 8 ∷ 8 ∷ 0 ∷ 65535 ∷ 2 ∷ 3 ∷ [] }
     ∷ record { given = responses (countCall wide .answer); wanted = 0 ∷ 1 ∷ 0 ∷ [] }
     -- the file has its record, behind the mark, the block's number and the count
     ∷ record {
       given = let s = writeCall wide doors (replicate 1024 7) in responses (s .answer) ++ take 20 (drop 516 (s .lent));
-      wanted = 0 ∷ 1024 ∷ 0 ∷ 1 ∷ 0 ∷ 1 ∷ 0 ∷ 5 ∷ 3 ∷ 1 ∷ 0 ∷ 8 ∷ 0 ∷ 8 ∷ 0 ∷ 0 ∷ 255 ∷ 255 ∷ 0 ∷ 2 ∷ 0 ∷ 2 ∷ [];
+      wanted = 0 ∷ 1024 ∷ 0 ∷ 1 ∷ 0 ∷ 1 ∷ 0 ∷ 5 ∷ 3 ∷ 1 ∷ 0 ∷ 8 ∷ 0 ∷ 8 ∷ 0 ∷ 0 ∷ 255 ∷ 255 ∷ 0 ∷ 2 ∷ 0 ∷ 3 ∷ [];
     }
     -- held against a file without it; no pool takes the file that was written
     ∷ record { given = responses (matchCall wide (fileOf doors []) .answer); wanted = 0 ∷ 5 ∷ [] }

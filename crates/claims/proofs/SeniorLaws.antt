@@ -26,12 +26,11 @@ use Rattle.model.specs.Call.{Request, requestOf}
 use Rattle.model.specs.Book.{Book, isLive, bookGrant}
 use Rattle.model.proofs.JudgedLaws.{refusing-judged}
 use Rattle.model.proofs.SeniorityLaws.{senior-iff, request-senior}
-use Rattle.pool.specs.Cell.{grantAt}
 use Rattle.grants_file.specs.File.{grantsIn, fileOf}
 use Rattle.grants_file.specs.FileSets.{FileSet}
 use Rattle.grants_file.proofs.FileLaws.{grantsIn-fileOf}
 use Rattle.grants_file.proofs.VerdictLaws.{accepted-files}
-use Rattle.calls.proofs.Represents.{Represents, represents-cell, represents-live}
+use Rattle.calls.proofs.Represents.{Represents, live-faultless}
 use Rattle.calls.proofs.WriteLaws.{touching-set}
 use Rattle.claims.specs.KeepsGrants.{Writes}
 use Rattle.claims.specs.SeniorGrants.{Senior, OtherwiseRight, SeniorGrants}
@@ -42,9 +41,7 @@ faultless-senior : (g : Grant) → NoneOf (requestCauses (requestOf g)) → Seni
 faultless-senior g faultless = request-senior (requestOf g) faultless
 
 live-senior : {w : List ℕ} {b : Book} → Represents w b → (g : Grant) → List·Memᴰ g (b .live) → Senior (g .rank) (g .bounds)
-live-senior {w} {b} h g m =
-    let cell = represents-cell h g (represents-live h g m) in
-    subst (λ (x : Grant). Senior (x .rank) (x .bounds)) (cell .2) (faultless-senior (grantAt w (cell .0)) (h .carried (cell .0) (cell .1) .faultless))
+live-senior h g m = faultless-senior g (live-faultless h g m)
 
 set-senior : {doors : Interval} {gs : List Grant} → FileSet doors gs → (g : Grant) → List·Memᴰ g (grantsIn (fileOf doors gs)) → Senior (g .rank) (g .bounds)
 set-senior {doors} {gs} s g m = faultless-senior g (s .each g (subst (List·Memᴰ g) (grantsIn-fileOf doors gs) m) .faultless)

@@ -57,6 +57,7 @@ use Rattle.claims.proofs.Cases as say
 use Rattle.claims.proofs.LinkCases.{linkCases}
 use Rattle.claims.proofs.FaultCases.{faultCases}
 use Rattle.claims.proofs.SeniorCases.{seniorCases}
+use Rattle.claims.proofs.QuarterCases.{quarterCases}
 
 -- document 01's two grants of the slips
 abbrev seven : Request
@@ -77,18 +78,18 @@ calls =
     ∷ grant nine
     ∷ grant seven
     ∷ list (box 0 65535 0 65535 0 65535) (1 ∷ 1 ∷ [])
-    ∷ list (box 150 150 1 20 40 40) (1 ∷ 1 ∷ 1 ∷ [])
+    ∷ list (box 150 150 1 20 40 41) (1 ∷ 1 ∷ 1 ∷ [])
     ∷ decide 150 12 40
     ∷ revoke 7
     ∷ revoke 7
     ∷ decide 150 12 40
-    ∷ decide 40000 50 9
+    ∷ decide 40000 50 8
     ∷ count
     ∷ grant (record { number = 0; rank = 0; kind = 0; bounds = box 0 0 0 0 0 0 })
     ∷ grant (record { number = 1; rank = 0; kind = 2; bounds = box 0 0 0 0 0 0 })
-    ∷ grant (record { number = 1; rank = 0; kind = 0; bounds = box 0 0 2 1 0 0 })
+    ∷ grant (record { number = 1; rank = 0; kind = 0; bounds = box 0 0 2 1 0 1 })
     ∷ grant seven
-    ∷ grant (record { number = 1; rank = 0; kind = 0; bounds = box 0 0 1 1 0 0 })
+    ∷ grant (record { number = 1; rank = 0; kind = 0; bounds = box 0 0 1 1 0 1 })
     ∷ list (box 0 65535 0 65535 0 65535) (1 ∷ 1 ∷ 1 ∷ 1 ∷ [])
     ∷ []
 
@@ -97,12 +98,12 @@ abbrev equalRanks : List Call
 equalRanks =
     grant (record { number = 8; rank = 10; kind = 1; bounds = box 0 9 0 9 0 9 })
     ∷ grant (record { number = 4; rank = 10; kind = 0; bounds = box 0 9 0 9 0 9 })
-    ∷ decide 9 9 9
+    ∷ decide 9 9 8
     ∷ []
 
 -- one that goes behind 3 on the left, at level 1
 abbrev five : Request
-five = record { number = 5; rank = 1; kind = 0; bounds = box 0 65535 12 12 0 0 }
+five = record { number = 5; rank = 1; kind = 0; bounds = box 0 65535 12 12 0 1 }
 
 abbrev numbers : List Response → List ℕ
 numbers [] = []
@@ -206,7 +207,7 @@ cases =
           ∷ replicate 10 0
           ++ (0 ∷ 0 ∷ 3 ∷ 40 ∷ 150 ∷ 150 ∷ 12 ∷ 12 ∷ 0 ∷ 65535 ∷ [])
           ++ (0 ∷ 0 ∷ 9 ∷ 21 ∷ 40000 ∷ 40001 ∷ 41 ∷ 50 ∷ 0 ∷ 9 ∷ [])
-          ++ (2 ∷ 3 ∷ 5 ∷ 2 ∷ 0 ∷ 65535 ∷ 12 ∷ 12 ∷ 0 ∷ 0 ∷ []);
+          ++ (2 ∷ 3 ∷ 5 ∷ 2 ∷ 0 ∷ 65535 ∷ 12 ∷ 12 ∷ 0 ∷ 1 ∷ []);
     }
     -- left is blank, so right is followed, to cell 2
     ∷ record {
@@ -235,19 +236,19 @@ cases =
     -- a file of two grants, byte for byte, and its verdict; its two checks were computed apart
     ∷ record {
       given = take 12 (fileOf doors two);
-      wanted = 0x4C ∷ 0x47 ∷ 0x46 ∷ 0x31 ∷ 0 ∷ 0 ∷ 0 ∷ 2 ∷ 0 ∷ 40 ∷ 0 ∷ 50 ∷ [];
+      wanted = 0x4C ∷ 0x47 ∷ 0x46 ∷ 0x32 ∷ 0 ∷ 0 ∷ 0 ∷ 2 ∷ 0 ∷ 40 ∷ 0 ∷ 50 ∷ [];
     }
     ∷ record { given = drop 12 (take 510 (fileOf doors two)); wanted = replicate 498 0 }
     ∷ record {
       given = take 40 (drop 512 (fileOf doors two));
       wanted =
-          0x4C ∷ 0x47 ∷ 0x46 ∷ 0x31 ∷ 0 ∷ 1 ∷ 0 ∷ 2
+          0x4C ∷ 0x47 ∷ 0x46 ∷ 0x32 ∷ 0 ∷ 1 ∷ 0 ∷ 2
           ∷ 0 ∷ 7 ∷ 10 ∷ 1 ∷ 0 ∷ 100 ∷ 0 ∷ 199 ∷ 0 ∷ 1 ∷ 0 ∷ 40 ∷ 0 ∷ 32 ∷ 0 ∷ 63
           ∷ 1 ∷ 44 ∷ 255 ∷ 0 ∷ 0 ∷ 0 ∷ 255 ∷ 255 ∷ 0 ∷ 50 ∷ 0 ∷ 60 ∷ 0 ∷ 0 ∷ 0 ∷ 1
           ∷ [];
     }
     ∷ record { given = drop 552 (take 1022 (fileOf doors two)); wanted = replicate 470 0 }
-    ∷ record { given = take 2 (drop 510 (fileOf doors two)) ++ drop 1022 (fileOf doors two); wanted = 135 ∷ 176 ∷ 31 ∷ 83 ∷ [] }
+    ∷ record { given = take 2 (drop 510 (fileOf doors two)) ++ drop 1022 (fileOf doors two); wanted = 231 ∷ 100 ∷ 127 ∷ 7 ∷ [] }
     ∷ record { given = verdictNumbers (fileOf doors two); wanted = 0 ∷ 40 ∷ 50 ∷ flatMap grantValues two }
     -- a byte of it changed; its doors made 41 to 50 with the check made right, so that grant 7 no longer touches them; no file
     ∷ record { given = verdictNumbers (set (fileOf doors two) 600 1); wanted = 12 ∷ 1 ∷ [] }
@@ -265,14 +266,14 @@ cases =
     ∷ record { given = say.responses (loadCall (replicate 13 1) (fileOf doors two) .answer); wanted = one 6 }
     ∷ []
 
-pub tried-cases : T (passed (cases ++ linkCases ++ faultCases ++ seniorCases))
+pub tried-cases : T (passed (cases ++ linkCases ++ faultCases ++ seniorCases ++ quarterCases))
 unfolding filter every any each sameNumbers countFrom overwrite insertBy sortBy overlaps sameGrant firstFault refusing reversedBox outranks decidingOf
     decideAmong bookGrant bookRevoke bookList bookDecide bookCount bookStep rootRegion half meets pointOf inside rangeOfBox rangeOfDoors rangeOfNumber
     place fieldOf capacityOf wrongLength wrongPool grantAt withCell freeCells freshPool meet visitBy enter search descendFrom descend freeBroken inserted
     follow terminalFrom replaced unlinked freed removed brokenBy searchFrom insertionFrom removalFrom searchLinks insertionLinks removalLinks freeLinks
-    hitsAmong searchMeets9 pointMeets9 searchHits grantMeets9 revokeMeets9 grantBroken revokeBroken startOrder grantOrder revokeOrder listOrder lookOrder startCall
-    grantCall revokeCall listCall decideCall countCall wordsStep responses after base256 checksum encodeRecord decodeRecord sealed headerBlock recordBlock
-    recordsOf wrongChecksum wrongPadding fileOf grantsIn wrongBlockCount recordsDefects lastBefore contentDefects fileDefects fileCauses notInFile
-    wrongCount restDefects readCauses partOf writeOrder loadOrder matchOrder writeCall grantAll loadCall firstDifference matchCall
+    hitsAmong searchMeets9 pointMeets9 searchHits grantMeets9 revokeMeets9 grantBroken revokeBroken startOrder grantOrder revokeOrder listOrder lookOrder
+    startCall grantCall revokeCall listCall decideCall countCall wordsStep responses after base256 checksum encodeRecord decodeRecord sealed headerBlock
+    recordBlock recordsOf wrongChecksum wrongPadding fileOf grantsIn wrongBlockCount recordsDefects lastBefore contentDefects fileDefects fileCauses
+    notInFile wrongCount restDefects readCauses partOf writeOrder loadOrder matchOrder writeCall grantAll loadCall firstDifference matchCall
     blockCall mathlib.Core.List.flatMap
 tried-cases = tt

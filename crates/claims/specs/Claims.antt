@@ -17,16 +17,17 @@
 use Prim.Native.Nat.{ℕ, _/_, _≤_, _<_}
 use mathlib.Core.Logic.{_↔_, _≢_}
 use mathlib.Core.Path.{_≡_}
-use mathlib.Core.Bool.{cond}
+use mathlib.Core.Bool.{true, false, cond}
 use mathlib.Core.List.{List, [], flatMap}
 use lib.Dec.{T}
 use lib.ListN.{length, getD, set}
 use Rattle.model.specs.declared.Box.{Box}
 use Rattle.model.specs.declared.Grant.{Grant}
-use Rattle.model.specs.declared.Fault.the-variants.{BadPool, BadChecksum}
+use Rattle.model.specs.declared.Fault.the-variants.{BadPool, Reversed, BadChecksum}
 use Rattle.model.specs.Interval.{Interval}
 use Rattle.model.specs.Overlap.{Overlap}
 use Rattle.model.specs.Answer.{accepted, refusal}
+use Rattle.model.specs.Arguments.{reversedBox}
 use Rattle.model.specs.Call.{Request, Call}
 use Rattle.model.specs.Values.{byteValues, Below, GrantFits, CallsFit}
 use Rattle.model.specs.Book.{emptyBook, bookStep}
@@ -77,8 +78,10 @@ Demand3 = (c : ℕ) (memory : List ℕ) (calls : List Call) → Memory c memory 
 
 -- DEMAND 2
 pub record Demand2 : Type 0 where
-  -- a hit is condition (5)
-  pub hits : (g : Grant) (q : Box) → GrantFits g → T (inside (rangeOfBox q) (pointOf g)) ↔ Overlap (g .bounds) q
+  -- a hit is condition (5), for every box that fault 2 lets through; list refuses the others on every pool
+  pub hits : (g : Grant) (q : Box) → GrantFits g → reversedBox q ≡ false → T (inside (rangeOfBox q) (pointOf g)) ↔ Overlap (g .bounds) q
+  pub refused-boxes : (w : List ℕ) (q : Box) (lent : List ℕ) → reversedBox q ≡ true
+      → listCall w q lent .answer ≡ cond (wrongPool w) (refusal BadPool) (refusal Reversed)
   -- from it come list and decide, after any calls, and match against the file of any doors and set
   pub lists : (c : ℕ) (memory : List ℕ) (calls : List Call) → Memory c memory → CallsFit calls
       → ListsGrants (wordsAfter memory calls) (liveAfter c calls)

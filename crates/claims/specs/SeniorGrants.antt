@@ -28,7 +28,7 @@ use Rattle.claims.specs.KeepsGrants.{Writes}
 abbrev pub Senior : ℕ → Box → Type 0
 Senior rank b = (seniorRank ≤ rank) ⊎ (b .«door_to» < b .«door_from» + maxJuniorDoors)
 
--- neither number 0 nor a kind above 1 nor a from above its to
+-- neither number 0 nor a kind above 1 nor a box that fault 2 refuses
 pub record OtherwiseRight (r : Request) : Type 0 where
   pub number : 1 ≤ r .number
   pub kind : r .kind ≤ 1

@@ -16,11 +16,18 @@ fn say_block(out: Stream, block: usize, reason: &[u8]) -> Stream {
     put(put(numbered, reason), b"; ask for the file again\n")
 }
 
-fn say_mark(out: Stream, block: usize) -> Stream {
+// A mark that isn't this form's: that of the form before it, or none.
+fn say_mark(out: Stream, block: usize, older: bool) -> Stream {
     let numbered = put_number(put(out, b"block "), block);
+    if older {
+        return put(
+            numbered,
+            b" begins with LGF1: it is of the older form, whose quarters end otherwise; cut the file anew\n",
+        );
+    }
     put(
         numbered,
-        b" doesn't begin with LGF1, so this is no grants file; ask for the right one\n",
+        b" doesn't begin with LGF2, so this is no grants file; ask for the right one\n",
     )
 }
 
@@ -69,7 +76,7 @@ fn say_record_fault(out: Stream, wrong: RecordFault) -> Stream {
         ),
         RecordFault::Reversed => put(
             out,
-            b": one of its ranges starts above its end; ask for the file again\n",
+            b": one of its ranges starts above its end, or its quarters end where they start; ask for the file again\n",
         ),
         RecordFault::RankTooLow => put(
             put_seniority(put(out, b": ")),
@@ -91,7 +98,7 @@ fn say_cause(out: Stream, defect: Defect) -> Stream {
             b"the file is not 1 to 68 whole blocks of 512 bytes; ask for it again\n",
         ),
         Defect::Checksum { block } => say_block(out, block, b" is damaged, its check is wrong"),
-        Defect::Mark { block } => say_mark(out, block),
+        Defect::Mark { block, older } => say_mark(out, block, older),
         Defect::BlockNumber { block } => say_block(out, block, b" carries another block's number"),
         Defect::TooManyGrants { total } => say_too_many(out, total),
         Defect::BlockCount { total, blocks } => say_block_count(out, total, blocks),

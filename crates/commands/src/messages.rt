@@ -29,7 +29,7 @@ fn put_fault(to: Stream, f: Fault) -> Stream {
         ),
         Fault::Reversed => put(
             to,
-            b"a range starts above its end: put the lower number first",
+            b"a range starts above its end, or the quarters end where they start: put the lower number first; the quarter to is the first that isn't covered",
         ),
         Fault::ZeroNumber => put(
             to,

@@ -160,11 +160,11 @@ pub fn say_show() -> Stream {
     let out = put(answers(), b"grants show FILE\n");
     let out = put(
         out,
-        b"A file's grants, ascending by number, a row each: number, rank, staff, doors and\n",
+        b"A file's grants, ascending by number, a row each: number, rank, staff and doors from\n",
     );
     let out = put(
         out,
-        b"quarters from and to, and whether the grant opens or bars.\n",
+        b"and to, quarters from and until, and whether the grant opens or bars.\n",
     );
     put(out, b"Example: grants show bank.lgf\n")
 }
@@ -182,6 +182,10 @@ pub fn say_slips() -> Stream {
     let out = put(
         out,
         b"  R NUMBER    L and a box of six values    D STAFF DOOR QUARTER    C\n",
+    );
+    let out = put(
+        out,
+        b"Staff and doors end with their TO; QUARTER-TO is the first quarter that isn't covered.\n",
     );
     put(out, b"Example: grants slips < night.txt\n")
 }

@@ -46,7 +46,7 @@ pub fn say_who(base: Base, door: u16, quarter: u16) -> Stream {
     let asked = say_quarter(named, base, quarter);
     put(
         asked,
-        b"\n  number    rank   staff      to through  until             does\n",
+        b"\n  number    rank   staff      to   until  day and time      does\n",
     )
 }
 

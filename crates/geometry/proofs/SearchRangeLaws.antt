@@ -1,21 +1,22 @@
--- What the ranges of specs/SearchRange hit: exactly what document 01 asks for, whatever numbers are asked ("Boxes as points").
+-- What the ranges of specs/SearchRange hit: exactly what document 01 asks for ("Boxes as points"), on quarters document 02, card 2.
 --   inside-pairs           a grant's point lies in a range by three pairs of axes, one for each of its ranges, and the number's axis
---   box-hits, box-hits-iff   list and decide: the grants that overlap the box, as tests and as condition 5
+--   box-hits, box-hits-iff   list and decide, a box that covers a quarter: the grants that overlap it, as tests and as conditions
 --   doors-hits             write and match: the grants that touch the doors
 --   number-hits            grant and revoke: the grant of that number
 --   all-hits               count: every grant
 --   box-, doors-, number-, all-one-sided    the search ranges are one-sided
 --   hit-axes               a point in a one-sided range, from the comparisons that can fail
 -- Assumes nothing.
-use Prim.Native.Nat.{ℕ, zero, suc, _<_, _≤_, zero-le}
+use Prim.Native.Nat.{ℕ, zero, suc, _+_, _-_, _<_, _≤_, zero-le}
 use mathlib.Core.Logic.{_↔_}
 use mathlib.Core.Path.{_≡_, refl, _∙_}
 use mathlib.Core.Bool.{Bool, true, _&&_, and-eq-true-iff, and-true}
-use mathlib.Core.List.{List, [], _∷_}
+use mathlib.Core.List.{List, []}
 use native.Mathlib.Omega.{arith}
-use lib.Dec.{T, leb, eqb, lit<}
+use native.Mathlib.Numerals.{add-one}
+use lib.Dec.{T, leb, ltb, eqb, lit<}
 use lib.ListN.{length, getD}
-use borrow.Author.Tests.{eqb-true, eq-eqb, le-leb}
+use borrow.Author.Tests.{eqb-true, eq-eqb, leb-true, le-leb, ltb-true, lt-ltb}
 use Rattle.lists.specs.Ranges.{countFrom}
 use Rattle.lists.proofs.TestLaws.{tests-agree, both-le, le-both}
 use Rattle.lists.proofs.ElementLaws.{mem-getD}
@@ -81,6 +82,18 @@ module _ (q : Region) (i j from to : ℕ) (fits : to ≤ topOf j) where
   closed-pair asked-from asked-to froms tos =
       rw (froms, tos, le-leb 0 from zero-le, le-leb to (topOf j) fits, and-true (leb asked-from to))
 
+  -- the same of half-open ranges, where one is asked for that covers something
+  half-open-pair : (asked-from asked-to : ℕ) → asked-from < asked-to → getD q i [] ≡ range 0 (asked-to - 1)
+      → getD q j [] ≡ range (asked-from + 1) (topOf j) → pairLies q i j from to ≡ (ltb from asked-to && ltb asked-from to)
+  half-open-pair asked-from asked-to some froms tos =
+      closed-pair (asked-from + 1) (asked-to - 1) froms tos ∙ rw (below, add-one asked-from)
+    where
+      below : leb from (asked-to - 1) ≡ ltb from asked-to
+      below =
+          tests-agree (leb from (asked-to - 1)) (ltb from asked-to)
+          (λ e. lt-ltb from asked-to (omega (arith, leb-true from (asked-to - 1) e)))
+          (λ e. le-leb from (asked-to - 1) (omega (arith, ltb-true from asked-to e)))
+
 module _ (g : Grant) where
   abbrev b : Box
   b = g .bounds
@@ -140,20 +153,22 @@ module _ (g : Grant) (fits : GrantFits g) where
   quarters-free : (q : Region) → getD q 2 [] ≡ free 2 → getD q 5 [] ≡ free 5 → quartersLie g q ≡ true
   quarters-free q froms tos = free-pair q 2 5 _ _ (value-fits 5 5 (lit< tt)) froms tos (value-fits 4 2 (lit< tt))
 
-  pub box-hits : (q : Box) → inside (rangeOfBox q) (pointOf g) ≡ overlaps (g .bounds) q
+  pub box-hits : (q : Box) → q .«quarter_from» < q .«quarter_to» → inside (rangeOfBox q) (pointOf g) ≡ overlaps (g .bounds) q
   unfolding rangeOfBox overlaps
-  box-hits q =
-      inside-pairs g (rangeOfBox q)
+  box-hits q some =
+      let h = g .bounds in
+      let r = rangeOfBox q in
+      inside-pairs g r
       ∙ rw (
-        closed-pair (rangeOfBox q) 0 3 (g .bounds .«staff_from») (g .bounds .«staff_to») (value-fits 1 3 (lit< tt)) (q .«staff_from») (q .«staff_to») refl refl,
-        closed-pair (rangeOfBox q) 1 4 (g .bounds .«door_from») (g .bounds .«door_to») (value-fits 3 4 (lit< tt)) (q .«door_from») (q .«door_to») refl refl,
-        closed-pair (rangeOfBox q) 2 5 (g .bounds .«quarter_from») (g .bounds .«quarter_to») (value-fits 5 5 (lit< tt)) (q .«quarter_from») (q .«quarter_to») refl refl,
-        free-lies (rangeOfBox q) 6 (g .number) refl number-fits,
+        closed-pair r 0 3 (h .«staff_from») (h .«staff_to») (value-fits 1 3 (lit< tt)) (q .«staff_from») (q .«staff_to») refl refl,
+        closed-pair r 1 4 (h .«door_from») (h .«door_to») (value-fits 3 4 (lit< tt)) (q .«door_from») (q .«door_to») refl refl,
+        half-open-pair r 2 5 (h .«quarter_from») (h .«quarter_to») (value-fits 5 5 (lit< tt)) (q .«quarter_from») (q .«quarter_to») some refl refl,
+        free-lies r 6 (g .number) refl number-fits,
       )
       (and-true _)
 
-  pub box-hits-iff : (q : Box) → T (inside (rangeOfBox q) (pointOf g)) ↔ Overlap (g .bounds) q
-  box-hits-iff q = rw (box-hits q) (overlaps-iff (g .bounds) q)
+  pub box-hits-iff : (q : Box) → q .«quarter_from» < q .«quarter_to» → T (inside (rangeOfBox q) (pointOf g)) ↔ Overlap (g .bounds) q
+  box-hits-iff q some = rw (box-hits q some) (overlaps-iff (g .bounds) q)
 
   pub doors-hits : (d : Interval) → inside (rangeOfDoors d) (pointOf g) ≡ touches d g
   unfolding rangeOfDoors

@@ -1,12 +1,14 @@
 -- What the walks search for (document 01, "Boxes as points" and "The walks of a call").
---   rangeOfBox b       list's box; decide's point is the box of that point
+--   rangeOfBox b       list's box; decide's point is the box of that point. Staff and doors are closed: a from is at most the asked to, a to at
+--                      least the asked from. Quarters are half-open (document 02, card 2): a from is below the asked to, a to above the asked from.
+--                      A box that fault 2 lets through has a quarter to above 0
 --   rangeOfDoors d     write and match: the doors, with the staff and quarter axes free
 --   rangeOfNumber n    grant and revoke: the number, with all other axes free
 --   rangeOfAll         count: everything
 --   OneSided q         what they have in common: nothing is asked of the low end of a from, nor of the high end of a to
--- Source 001's (8a) and (8b) have min and max exchanged; condition (5) decides. Changed by card 2.
+-- Source 001's (8a) and (8b) have min and max exchanged; condition (5) decides.
 -- Assumes nothing: these are definitions.
-use Prim.Native.Nat.{ℕ}
+use Prim.Native.Nat.{ℕ, _+_, _-_}
 use mathlib.Core.Path.{_≡_}
 use mathlib.Core.List.{[], _∷_}
 use Rattle.model.specs.declared.Box.{Box}
@@ -18,10 +20,10 @@ unfoldable pub rangeOfBox : Box → Region
 rangeOfBox b =
     range 0 (b .«staff_to»)
     ∷ range 0 (b .«door_to»)
-    ∷ range 0 (b .«quarter_to»)
+    ∷ range 0 (b .«quarter_to» - 1)
     ∷ range (b .«staff_from») (topOf 3)
     ∷ range (b .«door_from») (topOf 4)
-    ∷ range (b .«quarter_from») (topOf 5)
+    ∷ range (b .«quarter_from» + 1) (topOf 5)
     ∷ free 6
     ∷ []
 

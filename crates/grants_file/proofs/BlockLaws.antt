@@ -27,7 +27,8 @@ use Rattle.model.specs.Interval.{Interval}
 use Rattle.model.specs.Values.{wordValues, byteValues, Below, GrantFits}
 use Rattle.checksum.specs.Checksum.{checksum}
 use Rattle.checksum.proofs.ChecksumLaws.{checksum-lt}
-use Rattle.grants_file.specs.Layout.{blockBytes, magic, numberPlace, checksumPlace, headerEnd, recordsPlace, recordBytes, recordsPerBlock, recordPlace}
+use Rattle.grants_file.specs.Layout.{blockBytes, currentForm, magic, numberPlace, checksumPlace, headerEnd}
+use Rattle.grants_file.specs.Layout.{recordsPlace, recordBytes, recordsPerBlock, recordPlace}
 use Rattle.grants_file.specs.Bytes.{be16, be16At, bytesAt}
 use Rattle.grants_file.specs.Record.{encodeRecord, decodeRecord, kindByte}
 use Rattle.grants_file.specs.Block.{sealed, headerBlock, recordBlock, countOf, recordsOf, hasMagic, wrongChecksum, wrongPadding}
@@ -237,7 +238,7 @@ then-number : {bytes : List ℕ} (n : ℕ) → Below byteValues bytes → n < wo
 then-number n below h = below-append byteValues _ _ below (be16-below n h)
 
 magic-below : Below byteValues magic
-magic-below = byte 0x4C (omega arith) (byte 0x47 (omega arith) (byte 0x46 (omega arith) (byte 0x31 (omega arith) (below-nil byteValues))))
+magic-below = byte 0x4C (omega arith) (byte 0x47 (omega arith) (byte 0x46 (omega arith) (byte currentForm (omega arith) (below-nil byteValues))))
   where
     byte : {rest : List ℕ} (x : ℕ) → x < byteValues → Below byteValues rest → Below byteValues (x ∷ rest)
     byte {rest} x h below = below-cons byteValues x rest h below

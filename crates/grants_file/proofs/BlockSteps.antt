@@ -1,5 +1,5 @@
 -- The tests of a block, one after the other, as the code makes them.
---   magic-first, magic-second, magic-third, magic-fourth     the mark, byte by byte
+--   form-first, form-second, form-third, form-fourth     the mark of a form, byte by byte
 --   padding-found, padding-next, padding-end    the fill from a place on, a byte at a time
 --   records-start, records-cons                 the records left, one at a time
 -- Assumes nothing.
@@ -17,7 +17,7 @@ use borrow.Author.Tests.{ne-eqb}
 use Rattle.lists.specs.Tests.{every, sameNumbers}
 use Rattle.lists.specs.Ranges.{countFrom}
 use Rattle.grants_file.specs.Layout.{checksumPlace, recordPlace}
-use Rattle.grants_file.specs.Block.{recordsOf, hasMagic}
+use Rattle.grants_file.specs.Block.{recordsOf, hasForm}
 use Rattle.grants_file.proofs.RecordSteps.{recordAt}
 
 take-four : (b : List ℕ) → 4 ≤ length b → take 4 b ≡ getD b 0 0 ∷ getD b 1 0 ∷ getD b 2 0 ∷ getD b 3 0 ∷ []
@@ -27,24 +27,24 @@ take-four (v ∷ w ∷ []) h = absurd (omega arith)
 take-four (v ∷ w ∷ x ∷ []) h = absurd (omega arith)
 take-four (v ∷ w ∷ x ∷ y ∷ b) h = refl
 
-module _ (b : List ℕ) (long : 4 ≤ length b) where
-  pub magic-first : (getD b 0 0 ≡ 0x4C → ⊥) → false ≡ hasMagic b
+module _ (b : List ℕ) (form : ℕ) (long : 4 ≤ length b) where
+  pub form-first : (getD b 0 0 ≡ 0x4C → ⊥) → false ≡ hasForm b form
   unfolding sameNumbers
-  magic-first h = rw (take-four b long, ne-eqb (getD b 0 0) 0x4C h)
+  form-first h = rw (take-four b long, ne-eqb (getD b 0 0) 0x4C h)
 
   module _ (first : getD b 0 0 ≡ 0x4C) where
-    pub magic-second : (getD b 1 0 ≡ 0x47 → ⊥) → false ≡ hasMagic b
+    pub form-second : (getD b 1 0 ≡ 0x47 → ⊥) → false ≡ hasForm b form
     unfolding sameNumbers
-    magic-second h = rw (take-four b long, first, ne-eqb (getD b 1 0) 0x47 h)
+    form-second h = rw (take-four b long, first, ne-eqb (getD b 1 0) 0x47 h)
 
     module _ (second : getD b 1 0 ≡ 0x47) where
-      pub magic-third : (getD b 2 0 ≡ 0x46 → ⊥) → false ≡ hasMagic b
+      pub form-third : (getD b 2 0 ≡ 0x46 → ⊥) → false ≡ hasForm b form
       unfolding sameNumbers
-      magic-third h = rw (take-four b long, first, second, ne-eqb (getD b 2 0) 0x46 h)
+      form-third h = rw (take-four b long, first, second, ne-eqb (getD b 2 0) 0x46 h)
 
-      pub magic-fourth : getD b 2 0 ≡ 0x46 → eqb (getD b 3 0) 0x31 ≡ hasMagic b
+      pub form-fourth : getD b 2 0 ≡ 0x46 → eqb (getD b 3 0) form ≡ hasForm b form
       unfolding sameNumbers
-      magic-fourth h = rw (take-four b long, first, second, h) (sym (and-true (eqb (getD b 3 0) 0x31)))
+      form-fourth h = rw (take-four b long, first, second, h) (sym (and-true (eqb (getD b 3 0) form)))
 
 -- the bytes of the fill from a place on are zero
 abbrev pub zerosFrom : List ℕ → ℕ → Bool

@@ -31,10 +31,10 @@ use Rattle.grants_file.specs.declared.Defect.the-variants.{Sound, Checks
 use Rattle.grants_file.specs.declared.Defect.the-variants.{RecordCount, DoorOrder, Padding, Record}
 use Rattle.grants_file.specs.declared.RecordFault.{RecordFault}
 use Rattle.grants_file.specs.declared.RecordFault.the-variants.{NumberOrder, Doors}
-use Rattle.grants_file.specs.Layout.{numberPlace, headerEnd, recordPlace, kindPlace}
+use Rattle.grants_file.specs.Layout.{olderForm, numberPlace, headerEnd, recordPlace, kindPlace}
 use Rattle.grants_file.specs.Bytes.{be16At}
 use Rattle.grants_file.specs.Record.{recordNumber, recordRequest, decodeRecord}
-use Rattle.grants_file.specs.Block.{countOf, hasMagic, wrongChecksum, wrongPadding}
+use Rattle.grants_file.specs.Block.{countOf, hasForm, hasMagic, wrongChecksum, wrongPadding}
 use Rattle.grants_file.specs.File.{blocksFor, blocksIn, blockAt, totalIn, doorsIn}
 use Rattle.grants_file.specs.Defects.{_when_, startDefects, paddingDefects, layoutDefects, headerDefects}
 use Rattle.grants_file.specs.Defects.{recordFault, recordDefects, recordsDefects, isWrong, firstDefect}
@@ -50,9 +50,9 @@ module _ (b : List ℕ) (i : ℕ) where
   start-checksum h = rw (← h)
 
   module _ (checked : false ≡ wrongChecksum b) where
-    pub start-mark : false ≡ hasMagic b → Mark i ≡ firstDefect (startDefects b i)
+    pub start-mark : false ≡ hasMagic b → {older : Bool} → older ≡ hasForm b olderForm → Mark i older ≡ firstDefect (startDefects b i)
     unfolding firstDefect
-    start-mark h = rw (← checked, ← h)
+    start-mark h e = rw (← checked, ← h, ← e)
 
     module _ (mark : true ≡ hasMagic b) {n : ℕ} (e : n ≡ be16At b numberPlace) where
       pub start-number : (n ≡ i → ⊥) → BlockNumber i ≡ firstDefect (startDefects b i)

@@ -3,9 +3,10 @@
 --   headerBlock n doors, recordBlock i gs block 0, and block i with its records
 --   countOf b                             the record count of a block's bytes
 --   recordIn b k, recordsOf b n           its k-th record, from 0 on, and its first n records
---   hasMagic b, wrongChecksum b           document 01's mark stands at the start; fault 12's cause
+--   hasForm b form, hasMagic b            the mark of the form stands at the start, and that of the form that is read
+--   wrongChecksum b                       fault 12's cause
 --   wrongPadding b at                     a byte of the fill from `at` on is not zero
--- Changed by cards 2 and 11. Assumes nothing: these are definitions.
+-- Changed by card 11. Assumes nothing: these are definitions.
 use Prim.Native.Nat.{ℕ, _-_}
 use mathlib.Core.Bool.{Bool, not}
 use mathlib.Core.List.{List, _++_, map, flatMap}
@@ -16,7 +17,7 @@ use Rattle.lists.specs.Ranges.{countFrom}
 use Rattle.model.specs.declared.Grant.{Grant}
 use Rattle.model.specs.Interval.{Interval}
 use Rattle.checksum.specs.Checksum.{checksum}
-use Rattle.grants_file.specs.Layout.{magic, checksumPlace, countPlace, recordBytes, recordPlace}
+use Rattle.grants_file.specs.Layout.{magicOf, currentForm, magic, checksumPlace, countPlace, recordBytes, recordPlace}
 use Rattle.grants_file.specs.Bytes.{be16, be16At, bytesAt}
 use Rattle.grants_file.specs.Record.{encodeRecord}
 
@@ -40,8 +41,11 @@ recordIn b k = bytesAt b (recordPlace k) recordBytes
 unfoldable pub recordsOf : List ℕ → ℕ → List (List ℕ)
 recordsOf b n = map (recordIn b) (countFrom 0 n)
 
+abbrev pub hasForm : List ℕ → ℕ → Bool
+hasForm b form = sameNumbers (take (length magic) b) (magicOf form)
+
 abbrev pub hasMagic : List ℕ → Bool
-hasMagic b = sameNumbers (take (length magic) b) magic
+hasMagic b = hasForm b currentForm
 
 unfoldable pub wrongChecksum : List ℕ → Bool
 wrongChecksum b = not (eqb (be16At b checksumPlace) (checksum (take checksumPlace b)))

@@ -1,6 +1,6 @@
 -- What is wrong in a file (document 01, "Faults"): faults 10 and 12, and faults 11 and 13 by their causes, in the order in which they answer.
 --   x when t                       a defect, and whether it is there
---   startDefects b i               in the bytes b of block i: its check, mark and number
+--   startDefects b i               in the bytes b of block i: its check, its mark, with whether that is the older form's, and its number
 --   paddingDefects b i at          its fill, from `at` on
 --   layoutDefects b i t            its record count, by a test t of it, and its fill
 --   headerDefects f                the rest of block 0: n, the block count against n, the order of the doors, the fill
@@ -10,7 +10,7 @@
 --   defectFault x                  the fault that a defect stands for
 --   firstDefect cs                 the first that is there, Sound where none is; by `defectFault-first` of proofs/DefectLaws it is the first fault's
 --   defectIn f                     what is wrong in a file
--- Changed by card 2. Assumes nothing: these are definitions.
+-- Assumes nothing: these are definitions.
 use Prim.Native.Nat.{ℕ, zero, suc, _-_}
 use mathlib.Core.Bool.{Bool, true, false, cond, not, _&&_}
 use mathlib.Core.List.{List, [], _∷_, _++_, map, flatMap}
@@ -30,10 +30,10 @@ use Rattle.grants_file.specs.declared.Defect.the-variants.{Sound, Length
 use Rattle.grants_file.specs.declared.Defect.the-variants.{RecordCount, DoorOrder, Padding, Record}
 use Rattle.grants_file.specs.declared.RecordFault.{RecordFault}
 use Rattle.grants_file.specs.declared.RecordFault.the-variants.{NumberOrder, Kind, Reversed, RankTooLow, Doors}
-use Rattle.grants_file.specs.Layout.{numberPlace, headerEnd, recordBytes, recordPlace, lastRecordPlace}
+use Rattle.grants_file.specs.Layout.{olderForm, numberPlace, headerEnd, recordBytes, recordPlace, lastRecordPlace}
 use Rattle.grants_file.specs.Bytes.{be16At, bytesAt}
 use Rattle.grants_file.specs.Record.{recordNumber, recordRequest, decodeRecord}
-use Rattle.grants_file.specs.Block.{countOf, recordsOf, hasMagic, wrongChecksum, wrongPadding}
+use Rattle.grants_file.specs.Block.{countOf, recordsOf, hasForm, hasMagic, wrongChecksum, wrongPadding}
 use Rattle.grants_file.specs.File.{blocksFor, countIn, blocksIn, blockAt, wrongBlockCount, totalIn, doorsIn}
 
 pub record DefectCause : Type 0 where
@@ -47,7 +47,7 @@ x when t = record { defect = x; present = t }
 abbrev pub startDefects : List ℕ → ℕ → List DefectCause
 startDefects b i =
     Checksum i when wrongChecksum b
-    ∷ Mark i when not (hasMagic b)
+    ∷ Mark i (hasForm b olderForm) when not (hasMagic b)
     ∷ BlockNumber i when not (eqb (be16At b numberPlace) i)
     ∷ []
 
@@ -111,7 +111,7 @@ abbrev pub defectFault : Defect → Option Fault
 defectFault Sound = none
 defectFault Length = some BadLength
 defectFault (Checksum i) = some (BadChecksum i)
-defectFault (Mark i) = some (BadLayout i)
+defectFault (Mark i older) = some (BadLayout i)
 defectFault (BlockNumber i) = some (BadLayout i)
 defectFault (TooManyGrants total) = some (BadLayout 0)
 defectFault (BlockCount total blocks) = some (BadLayout 0)

@@ -1,12 +1,13 @@
 -- Where everything stands in a grants file (document 01, "The grants file"). The one file that names a size or a place in bytes.
 --   blockBytes, maxBlocks           document 01's block size, and the most blocks of a file
---   magic                           document 01's mark, at a block's start
+--   magicOf form, magic             the mark, at a block's start: three bytes and one for the file's form, and that of the form written and read
+--   currentForm, olderForm          this form (document 02, card 2), and the one before it, whose quarters were closed
 --   numberPlace, checksumPlace      the block's number, and its check
 --   totalPlace, firstDoorPlace, lastDoorPlace, headerEnd    block 0: n, the doors, and where its fill begins
 --   countPlace, recordPlace k       another block: its record count, and its k-th record, from 0 on
 --   recordBytes, recordsPerBlock    document 01's record size, and its 31 records a block
 --   grantPlace .. quarterToPlace    a record: the grant's number, rank and kind, and its six values in cell order
--- Changed by cards 2 and 11. Assumes nothing: these are definitions.
+-- Changed by card 11. Assumes nothing: these are definitions.
 use Prim.Native.Nat.{ℕ, _+_, _-_, _*_}
 use mathlib.Core.List.{List, [], _∷_}
 
@@ -16,8 +17,17 @@ blockBytes = 512
 abbrev pub maxBlocks : ℕ
 maxBlocks = 68
 
+abbrev pub magicOf : ℕ → List ℕ
+magicOf form = 0x4C ∷ 0x47 ∷ 0x46 ∷ form ∷ []
+
+abbrev pub currentForm : ℕ
+currentForm = 0x32
+
+abbrev pub olderForm : ℕ
+olderForm = 0x31
+
 abbrev pub magic : List ℕ
-magic = 0x4C ∷ 0x47 ∷ 0x46 ∷ 0x31 ∷ []
+magic = magicOf currentForm
 
 abbrev pub numberPlace : ℕ
 numberPlace = 4

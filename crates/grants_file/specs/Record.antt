@@ -3,7 +3,7 @@
 --   recordNumber r        the grant's number in the bytes r; kindByte r is the byte of its kind
 --   recordRequest r       its values, as grant would be asked for them
 --   decodeRecord r        the grant
--- Changed by cards 2 and 11. Assumes nothing: these are definitions.
+-- Changed by card 11. Assumes nothing: these are definitions.
 use Prim.Native.Nat.{ℕ}
 use mathlib.Core.List.{List, [], _∷_, _++_, flatMap}
 use lib.ListN.{getD}

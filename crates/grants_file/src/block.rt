@@ -4,7 +4,7 @@ ghost use mathlib.Core.Path.{_≡_};
 ghost use Prim.Native.Nat.{_<_};
 ghost use lib.ListN.{length};
 ghost use Rattle.grants_file.specs.Layout.{blockBytes};
-ghost use Rattle.grants_file.specs.Block.{countOf, hasMagic, wrongChecksum, wrongPadding};
+ghost use Rattle.grants_file.specs.Block.{countOf, hasForm, wrongChecksum, wrongPadding};
 use crate::bytes::be16_at;
 use crate::bytes::count_at;
 use crate::layout::CHECKSUM_PLACE;
@@ -28,10 +28,10 @@ pub fn wrong_checksum(block: &[u8]) -> bool
     be16_at(block, CHECKSUM_PLACE) != checksum(&block[0..CHECKSUM_PLACE])
 }
 
-// Document 01's mark.
-pub fn has_magic(block: &[u8]) -> bool
+// Whether the mark is that of a form.
+pub fn has_form(block: &[u8], form: u8) -> bool
     requires { ⌜ length (now block) ≡ blockBytes ⌝ }
-    ensures { λ r. ⌜ r ≡ hasMagic (now (block .entry)) ⌝ }
+    ensures { λ r. ⌜ r ≡ hasForm (now (block .entry)) form ⌝ }
 {
     if block[0] != MAGIC[0] {
         return false;
@@ -42,7 +42,7 @@ pub fn has_magic(block: &[u8]) -> bool
     if block[2] != MAGIC[2] {
         return false;
     }
-    block[3] == MAGIC[3]
+    block[3] == form
 }
 
 // A byte of the fill, from a place on, is not zero.

@@ -6,11 +6,13 @@ ghost use Rattle.grants_file.specs.Layout.{blockBytes};
 ghost use Rattle.grants_file.specs.Defects.{startDefects, paddingDefects, layoutDefects, firstDefect};
 use crate::Defect;
 use crate::block::count_of;
-use crate::block::has_magic;
+use crate::block::has_form;
 use crate::block::wrong_checksum;
 use crate::block::wrong_padding;
 use crate::bytes::count_at;
+use crate::layout::CURRENT_FORM;
 use crate::layout::NUMBER_PLACE;
+use crate::layout::OLDER_FORM;
 use crate::layout::RECORD_BYTES;
 use crate::layout::RECORDS_PLACE;
 
@@ -22,13 +24,16 @@ pub fn start_defect(block: &[u8], number: usize) -> Defect
     if wrong_checksum(block) {
         return Defect::Checksum { block: number };
     }
-    if has_magic(block) {
+    if has_form(block, CURRENT_FORM) {
         if count_at(block, NUMBER_PLACE) == number {
             return Defect::Sound;
         }
         return Defect::BlockNumber { block: number };
     }
-    Defect::Mark { block: number }
+    Defect::Mark {
+        block: number,
+        older: has_form(block, OLDER_FORM),
+    }
 }
 
 // The fill of a block, from a place on.

@@ -14,7 +14,7 @@ pub fn outcome_of(defect: Defect) -> Outcome
         Defect::Sound => Outcome::Done,
         Defect::Length => Outcome::Refused(Fault::BadLength),
         Defect::Checksum { block } => Outcome::Refused(Fault::BadChecksum { block }),
-        Defect::Mark { block } => Outcome::Refused(Fault::BadLayout { block }),
+        Defect::Mark { block, .. } => Outcome::Refused(Fault::BadLayout { block }),
         Defect::BlockNumber { block } => Outcome::Refused(Fault::BadLayout { block }),
         Defect::TooManyGrants { .. } => Outcome::Refused(Fault::BadLayout { block: 0 }),
         Defect::BlockCount { .. } => Outcome::Refused(Fault::BadLayout { block: 0 }),

@@ -7,8 +7,13 @@ pub const MAX_BLOCKS: usize = 68;
 // The bytes of the longest file.
 pub const MAX_BYTES: usize = BLOCK_BYTES * MAX_BLOCKS;
 
-// Document 01's mark, at a block's start.
-pub const MAGIC: [u8; 4] = [0x4C, 0x47, 0x46, 0x31];
+// The last byte of the mark: this form, and the one before it, whose quarters were closed.
+pub const CURRENT_FORM: u8 = 0x32;
+
+pub const OLDER_FORM: u8 = 0x31;
+
+// The mark, at a block's start.
+pub const MAGIC: [u8; 4] = [0x4C, 0x47, 0x46, CURRENT_FORM];
 
 // In every block: its number, and its check.
 pub const NUMBER_PLACE: usize = 4;

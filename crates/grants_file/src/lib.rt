@@ -14,7 +14,7 @@ pub mod verdict;
 pub mod write_block;
 
 // What is wrong in a file, finer than document 01's fault: 10; 12; 11 by its causes; 13 by its causes (`Record`).
-// A record counts from 1 in its block; its number is the grant's, as it stands there.
+// A record counts from 1 in its block; its number is the grant's, as it stands there. `older` where the mark is that of the form before this one.
 pub enum Defect {
     Sound,
     Length,
@@ -23,6 +23,7 @@ pub enum Defect {
     },
     Mark {
         block: usize,
+        older: bool,
     },
     BlockNumber {
         block: usize,
@@ -52,7 +53,7 @@ pub enum Defect {
     },
 }
 
-// Fault 13's causes: a number that is 0 or not above the last, a kind above 1, a from above its to, a rank too low for its doors, doors that the
+// Fault 13's causes: a number that is 0 or not above the last, a kind above 1, a box as in fault 2, a rank too low for its doors, doors that the
 // file's don't touch.
 pub enum RecordFault {
     NumberOrder,

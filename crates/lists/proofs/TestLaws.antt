@@ -2,6 +2,7 @@
 --   T-iff                    a test that passes is true
 --   T-and                    two tests in one pass exactly if both do
 --   tests-agree              two tests of which each passes if the other does are one
+--   not-passed, not-failed   a test whose negation passes fails, and one whose negation fails passes
 --   both-le, le-both         a test of two orders passes exactly if both hold
 --   each-all, all-each       the test of every number below n passes exactly if each one's does
 --   every-all, all-every     the same of the elements of a list
@@ -16,7 +17,7 @@
 use Prim.Native.Nat.{ℕ, zero, suc, _<_, _≤_}
 use mathlib.Core.Logic.{_↔_}
 use mathlib.Core.Path.{_≡_, refl, sym, ap, _∙_}
-use mathlib.Core.Bool.{Bool, true, false, cond, _&&_, and-eq-true-iff, false≢true}
+use mathlib.Core.Bool.{Bool, true, false, cond, not, _&&_, and-eq-true-iff, false≢true, Bool·not-not}
 use mathlib.Core.List.{List, [], _∷_, _++_, map, List·Memᴰ, List·Memᴰ·head, List·Memᴰ·tail, List·Memᴰ·not-nil}
 use native.Mathlib.Omega.{arith}
 use native.Mathlib.Decide.{ℕ-discrete}
@@ -38,6 +39,12 @@ pub tests-agree : (t u : Bool) → (t ≡ true → u ≡ true) → (u ≡ true �
 tests-agree true u f g = sym (f refl)
 tests-agree false true f g = g refl
 tests-agree false false f g = refl
+
+pub not-passed : {t u : Bool} → t ≡ u → not t ≡ true → u ≡ false
+not-passed {t} e h = sym e ∙ sym (Bool·not-not t) ∙ ap not h
+
+pub not-failed : {t u : Bool} → t ≡ u → not t ≡ false → u ≡ true
+not-failed {t} e h = sym e ∙ sym (Bool·not-not t) ∙ ap not h
 
 pub both-le : (k l m n : ℕ) → (leb k l && leb m n) ≡ true → (k ≤ l) × (m ≤ n)
 both-le k l m n e = let both = and-eq-true-iff (leb k l) (leb m n) .0 e in (leb-true k l (both .0), leb-true m n (both .1))

@@ -30,7 +30,7 @@ box a b c d e f =
     record { «staff_from» = a; «staff_to» = b; «door_from» = c; «door_to» = d; «quarter_from» = e; «quarter_to» = f }
 
 abbrev seven : Grant
-seven = record { number = 7; rank = 10; kind = kind.Opens; bounds = box 100 199 1 40 32 63 }
+seven = record { number = 7; rank = 10; kind = kind.Opens; bounds = box 100 199 1 40 32 64 }
 
 abbrev three : Grant
 three = record { number = 3; rank = 20; kind = kind.Bars; bounds = box 150 150 12 12 0 65535 }
@@ -46,7 +46,7 @@ pub may-cases : (
     asked 120 base (Opens seven)
     ≡ text "staff 120, door 12, quarter 40 (2026-01-01 10:00): OPENS, by grant 7"
     ++ grantHeads
-    ++ text "       7      10     100     199       1      40      32      63  opens"
+    ++ text "       7      10     100     199       1      40      32      64  opens"
     ++ text "from 2026-01-01 08:00 until 2026-01-01 16:00"
     ++ text ""
     )
@@ -55,7 +55,7 @@ pub may-cases : (
     ≡ text "staff 150, door 12, quarter 40 (2026-01-01 10:00): BARRED, by grant 3"
     ++ grantHeads
     ++ text "       3      20     150     150      12      12       0   65535  bars"
-    ++ text "from 2026-01-01 00:00 until 2027-11-14 16:00"
+    ++ text "from 2026-01-01 00:00 until 2027-11-14 15:45"
     ++ text ""
     )
     × (asked 300 base None ≡ text "staff 300, door 12, quarter 40 (2026-01-01 10:00): NO GRANT, do not open" ++ text "")

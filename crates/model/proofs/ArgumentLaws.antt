@@ -1,7 +1,8 @@
 -- Laws of what is wrong in a request (specs/Arguments).
 --   checkFault c                 the fault of what a check found
 --   firstWrong-fault             the first thing wrong in a request stands for the first fault of its causes
---   request-numbered, request-kind   what a request without faults has: a number above 0, and a kind of 0 or 1
+--   request-numbered, request-kind, request-forward   what a request without faults has: a number above 0, a kind of 0 or 1, and a box that fault 2
+--                                lets through
 --   kindOf-kindNumber, kindNumber-kindOf       a kind's number gives the kind back, and a kind of 0 or 1 the number
 --   requested-requestOf, requestOf-requested   a grant as a request is asked for that grant, and such a request is that of its grant
 --   requested-faultless             the grant of a request without faults has none
@@ -24,7 +25,7 @@ use Rattle.model.specs.Kind.{kindNumber, kindOf}
 use Rattle.model.specs.Call.{Request, requested, requestOf}
 use Rattle.model.specs.Refusal.{_if_, firstFault}
 use Rattle.model.specs.Judged.{NoneOf, none-more}
-use Rattle.model.specs.Arguments.{wrongIn, faultOf, requestCauses, firstWrong}
+use Rattle.model.specs.Arguments.{reversedBox, wrongIn, faultOf, requestCauses, firstWrong}
 
 -- the fault of what a check found
 abbrev pub checkFault : RequestCheck → Option Fault
@@ -46,6 +47,9 @@ request-numbered r (none-more p rest) = let some = eqb-false (r .number) 0 p in 
 
 pub request-kind : (r : Request) → NoneOf (requestCauses r) → r .kind ≤ 1
 request-kind r (none-more p (none-more q rest)) = ltb-false 1 (r .kind) q
+
+pub request-forward : (r : Request) → NoneOf (requestCauses r) → reversedBox (r .bounds) ≡ false
+request-forward r (none-more p (none-more q (none-more t rest))) = t
 
 pub kindOf-kindNumber : (k : Kind) → kindOf (kindNumber k) ≡ k
 kindOf-kindNumber Bars = refl

@@ -1,5 +1,6 @@
 -- Laws of the model, for the crates above.
 pub mod OverlapLaws
+pub mod QuarterLaws
 pub mod DecideLaws
 pub mod Simulation
 pub mod RefusalLaws

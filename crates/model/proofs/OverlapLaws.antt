@@ -3,6 +3,7 @@
 --   overlaps-iff                    on all three
 --   overlapping-iff                 so the grants that the book takes are those that overlap
 -- Assumes nothing.
+use Prim.Native.Nat.{suc}
 use mathlib.Core.Logic.{_↔_}
 use mathlib.Core.Bool.{_&&_}
 use mathlib.Core.List.{List, List·Memᴰ}
@@ -24,8 +25,8 @@ overlapOn-iff a b = (
 
 pub overlapInTime-iff : (a b : Quarters) → T (overlapInTime a b) ↔ OverlapInTime a b
 overlapInTime-iff a b = (
-  (λ t. let both = both-le (a .from) (b .to) (b .from) (a .to) (T-iff _ .0 t) in record { starts = both .0; ends = both .1 }),
-  (λ o. T-iff _ .1 (le-both (a .from) (b .to) (b .from) (a .to) (o .starts) (o .ends))),
+  (λ t. let both = both-le (suc (a .from)) (b .to) (suc (b .from)) (a .to) (T-iff _ .0 t) in record { starts = both .0; ends = both .1 }),
+  (λ o. T-iff _ .1 (le-both (suc (a .from)) (b .to) (suc (b .from)) (a .to) (o .starts) (o .ends))),
 )
 
 pub overlaps-iff : (a b : Box) → T (overlaps a b) ↔ Overlap a b

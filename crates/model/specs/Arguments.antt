@@ -1,6 +1,6 @@
 -- The faults of a call's arguments: 2, 3 and 4 of document 01's table, each in its words, and all of a grant's in one list, 16 with them
 -- (`rankTooLow`, specs/Seniority).
---   reversedBox b      2: from above to in a box
+--   reversedBox b      2: in a box, staff or doors with from above to, or quarters that cover none (document 02, card 2)
 --   reversedDoors d    2: from above to in write's doors
 --   zeroNumber n       3: grant number 0
 --   unknownKind k      4: kind above 1
@@ -10,7 +10,7 @@
 --   requestCauses r    the causes of a request's faults. Grant's line has them, the book's and the words'; a record has them as causes of 13
 --                      (grants_file/specs/Defects), and a file's set has no grant with one (grants_file/specs/FileSets)
 --   firstWrong r xs    the first of xs that is wrong in r
--- Changed by card 2. Assumes nothing: these are definitions.
+-- Assumes nothing: these are definitions.
 use Prim.Native.Nat.{ℕ}
 use mathlib.Core.Bool.{Bool, cond, _||_}
 use mathlib.Core.List.{List, [], _∷_, map}

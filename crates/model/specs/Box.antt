@@ -1,9 +1,9 @@
 -- A box's three ranges (document 01, "The plain book": staff, doors, quarters).
 --   staffOf, doorsOf, quartersOf   its ranges
 --   boxValues                      its six values, in document 01's order
---   pointBox s d q                 the box of the one point that decide asks about
+--   pointBox s d q                 the box of the one point that decide asks about; its quarters are q alone, so up to q + 1
 -- Assumes nothing: these are definitions.
-use Prim.Native.Nat.{ℕ}
+use Prim.Native.Nat.{ℕ, _+_}
 use mathlib.Core.List.{List, [], _∷_}
 use Rattle.model.specs.declared.Box.{Box}
 use Rattle.model.specs.Interval.{Interval}
@@ -30,5 +30,5 @@ pointBox staff door quarter =
       «door_from» = door;
       «door_to» = door;
       «quarter_from» = quarter;
-      «quarter_to» = quarter;
+      «quarter_to» = quarter + 1;
     }

@@ -1,4 +1,4 @@
--- A closed range of numbers: document 01's "from" and "to". Both ends belong to it.
+-- A closed range of staff or doors: document 01's "from" and "to". Both ends belong to it. Quarters have a range of their own (specs/Quarters).
 --   reversed i        from lies above to
 --   holds i x         x lies in the range
 --   sizeOf i          how many numbers lie in it; none in a reversed one

@@ -1,5 +1,7 @@
 // Which grant decides, and the answer it gives (document 01, "The plain book": decide; document 02, card 1; specs/Decide says the same).
 ghost use mathlib.Core.Path.{_≡_};
+ghost use Prim.Native.Nat.{_<_};
+ghost use Rattle.model.specs.Quarters.{topQuarter};
 ghost use Rattle.model.specs.Box.{pointBox};
 ghost use Rattle.model.specs.Decide.{outranks, decisionOf};
 use crate::Box;
@@ -7,8 +9,9 @@ use crate::Decision;
 use crate::Grant;
 use crate::Kind;
 
-// The box of the one point that is asked about.
+// The box of the one point that is asked about, at a quarter that a grant can cover.
 pub fn point_box(staff: u16, door: u16, quarter: u16) -> Box
+    requires { ⌜ quarter < topQuarter ⌝ }
     ensures { λ r. ⌜ r ≡ pointBox staff door quarter ⌝ }
 {
     Box {
@@ -17,7 +20,7 @@ pub fn point_box(staff: u16, door: u16, quarter: u16) -> Box
         door_from: door,
         door_to: door,
         quarter_from: quarter,
-        quarter_to: quarter,
+        quarter_to: quarter + 1,
     }
 }
 

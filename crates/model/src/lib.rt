@@ -18,7 +18,7 @@ pub enum Kind {
     Opens,
 }
 
-// Document 01's box. Both ends of each range belong to it.
+// Document 01's box. Both ends of staff and of doors belong to it; quarter_to is the first quarter that it doesn't cover (document 02, card 2).
 pub struct Box {
     pub staff_from: u16,
     pub staff_to: u16,

@@ -1,4 +1,4 @@
--- Rows computed: grant 7, for staff 100 to 199 at door 12, through quarter 63 of a day.
+-- Rows computed: grant 7, for staff 100 to 199 at door 12, until quarter 64 of a day.
 --   row-cases         its row in the table of grants, and where it touches a door
 --   moment-cases      its times, and one of its quarters; no base day, and one whose year is too long
 -- Assumes nothing.
@@ -21,9 +21,9 @@ use Rattle.panel.specs.Rows.{grantRow, touchingRow, timesRow}
 abbrev on : ℕ → Base
 on y = Day (record { year = y; month = 3; day = 1 })
 
--- through a quarter
+-- until a quarter
 abbrev seven : ℕ → Grant
-seven last =
+seven until =
     record {
       number = 7;
       rank = 10;
@@ -35,23 +35,23 @@ seven last =
             «door_from» = 12;
             «door_to» = 12;
             «quarter_from» = 32;
-            «quarter_to» = last;
+            «quarter_to» = until;
           };
     }
 
 abbrev Reads : List ℕ → String → Type 0
 Reads t s = t ≡ ascii s
 
-pub row-cases : Reads (grantRow (seven 63)) "       7      10     100     199      12      12      32      63  opens\n"
-    × Reads (touchingRow (seven 63) Whole (on 2027)) "       7      10     100     199      63  2027-03-01 16:00  opens\n"
-    × Reads (touchingRow (seven 65535) Partial (on 2027)) "       7      10     100     199   65535  2029-01-11 16:00  opens, in part\n"
-    × Reads (touchingRow (seven 63) None Unknown) "       7      10     100     199      63  -                 opens, OVERRIDDEN\n"
+pub row-cases : Reads (grantRow (seven 64)) "       7      10     100     199      12      12      32      64  opens\n"
+    × Reads (touchingRow (seven 64) Whole (on 2027)) "       7      10     100     199      64  2027-03-01 16:00  opens\n"
+    × Reads (touchingRow (seven 65535) Partial (on 2027)) "       7      10     100     199   65535  2029-01-11 15:45  opens, in part\n"
+    × Reads (touchingRow (seven 64) None Unknown) "       7      10     100     199      64  -                 opens, OVERRIDDEN\n"
 unfolding shownBase aligned columns numeral digitsBy dateAfter nextDay monthDays leapYear
 row-cases = (refl, refl, refl, refl)
 
-pub moment-cases : Reads (timesRow (seven 95) (on 2027)) "from 2027-03-01 08:00 until 2027-03-02 00:00\n"
+pub moment-cases : Reads (timesRow (seven 96) (on 2027)) "from 2027-03-01 08:00 until 2027-03-02 00:00\n"
     × Reads (momentNote (on 2027) 63) " (2027-03-01 15:45)"
-    × (timesRow (seven 95) Unknown ≡ [])
+    × (timesRow (seven 96) Unknown ≡ [])
     × (momentNote (on 10000) 63 ≡ [])
 unfolding shownBase dateAfter nextDay monthDays leapYear
 moment-cases = (refl, refl, refl, refl)

@@ -1,14 +1,17 @@
 -- What is answered of a door and a quarter, test by test.
 --   touching-bad, touching-broken    the refusals, in their order
+--   touching-late                    between them: at a quarter that no grant can cover there is none
 --   touching-done                    the grant at the place asked for, or that there is none
 -- Assumes nothing.
 use Prim.Native.Nat.{ℕ}
 use mathlib.Core.Path.{_≡_, sym, ap, _∙_}
+use mathlib.Core.Bool.{true, false}
 use mathlib.Core.List.{List, map}
 use Rattle.lists.specs.Sort.{sortBy}
 use Rattle.model.specs.declared.Box.{Box}
 use Rattle.model.specs.declared.Grant.{Grant}
 use Rattle.model.specs.declared.Fault.the-variants.{BadPool, BrokenLinks}
+use Rattle.model.specs.Quarters.{coverable}
 use Rattle.model.specs.Refusal.{firstFault}
 use Rattle.geometry.specs.Region.{Region}
 use Rattle.geometry.specs.SearchRange.{rangeOfBox}
@@ -21,27 +24,31 @@ use Rattle.calls.specs.Order.{lookOrder}
 use Rattle.steps.proofs.HitsLaws.{broken-search, found-hits}
 use Rattle.calls.proofs.RefusalSteps.{pool-refused, pool-taken}
 use Rattle.panel.specs.declared.touching.Touching.{Touching}
-use Rattle.panel.specs.declared.touching.Touching.the-variants.{Refused}
-use Rattle.panel.specs.Touching.{doorBox, placed, touchingAt}
+use Rattle.panel.specs.declared.touching.Touching.the-variants.{End, Refused}
+use Rattle.panel.specs.Touching.{doorBox, placedAmong, placed, touchingAt}
 
 module _ (w : List ℕ) (door quarter i : ℕ) {c : ℕ} (e : c ≡ poolCapacity w) where
   pub touching-bad : c ≡ 0 → Refused BadPool ≡ touchingAt w door quarter i
   unfolding touchingAt lookOrder firstFault
   touching-bad z = rw (pool-refused w e z)
 
-  module _ (n : ¬ (c ≡ 0)) {b : Box} {q : Region} (asked : b ≡ doorBox door quarter) (a : q ≡ rangeOfBox b) where
+  pub touching-late : ¬ (c ≡ 0) → coverable quarter ≡ false → End ≡ touchingAt w door quarter i
+  unfolding touchingAt lookOrder firstFault sortBy placedAmong
+  touching-late n late = rw (late, pool-taken w e n .right)
+
+  module _ (n : ¬ (c ≡ 0)) (early : coverable quarter ≡ true) {b : Box} {q : Region} (asked : b ≡ doorBox door quarter) (a : q ≡ rangeOfBox b) where
     range : q ≡ rangeOfBox (doorBox door quarter)
     range = a ∙ ap rangeOfBox asked
 
     module _ (h : List ℕ) {r : Hits} (f : HitsFound w q h r) where
       pub touching-broken : r ≡ Broken → Refused BrokenLinks ≡ touchingAt w door quarter i
       unfolding touchingAt lookOrder firstFault
-      touching-broken met = rw (pool-taken w e n .right, broken-search w range h f met)
+      touching-broken met = rw (early, pool-taken w e n .right, broken-search w range h f met)
 
       pub touching-done : {found : ℕ} → r ≡ Found found → {t : Touching} → t ≡ placed (sortBy (λ g. g .number) (grantsAt w h found)) i
           → t ≡ touchingAt w door quarter i
       unfolding touchingAt lookOrder firstFault
       touching-done unmet {t} done =
           let at = found-hits w range h f unmet in
-          rw (pool-taken w e n .right, at .unbroken)
+          rw (early, pool-taken w e n .right, at .unbroken)
           (done ∙ ap (λ (ks : List ℕ). placed (sortBy (λ (g : Grant). g .number) (map (grantAt w) ks)) i) (sym (at .found)))

@@ -1,11 +1,10 @@
 -- A grant as a line of a table, and the days and times that the panel shows.
 --   grantHeads                    the heads of the columns of grantRow
 --   grantRow g                    number, rank, staff, doors and quarters, then `opens` or `bars`
---   touchingRow g precedence base   number, rank, staff and last quarter, when the grant ends, `opens` or `bars`, then how far it stands
---   timesRow g base               from when until when the grant holds
---   untilOf g                       the quarter at whose start the grant ends: the one after its last, as both ends belong to it
+--   touchingRow g precedence base   number, rank, staff, the quarter to and its day and time, `opens` or `bars`, then how far it stands
+--   timesRow g base               from when until when the grant holds: it ends at the start of its quarter to
 -- Assumes nothing: these are definitions.
-use Prim.Native.Nat.{ℕ, _+_}
+use Prim.Native.Nat.{ℕ}
 use mathlib.Core.List.{List, [], _∷_, _++_}
 use Rattle.model.specs.declared.Kind.{Kind}
 use Rattle.model.specs.declared.Kind.the-variants.{Bars, Opens}
@@ -20,9 +19,6 @@ use Rattle.calendar.specs.Note.{shownBase}
 use Rattle.calendar.specs.declared.Base.{Base}
 use Rattle.calendar.specs.declared.Base.the-variants.{Unknown, Day}
 use Rattle.text.specs.Columns.{columns}
-
-abbrev pub untilOf : Grant → ℕ
-untilOf g = g .bounds .«quarter_to» + 1
 
 abbrev pub kindText : Kind → List ℕ
 kindText Bars = ascii "bars"
@@ -40,10 +36,10 @@ momentColumn (Day d) q = momentText d q
 
 abbrev pub timesFrom : Base → Grant → List ℕ
 timesFrom Unknown g = []
-timesFrom (Day d) g = line (ascii "from " ++ momentText d (g .bounds .«quarter_from») ++ ascii " until " ++ momentText d (untilOf g))
+timesFrom (Day d) g = line (ascii "from " ++ momentText d (g .bounds .«quarter_from») ++ ascii " until " ++ momentText d (g .bounds .«quarter_to»))
 
 abbrev pub grantHeads : List ℕ
-grantHeads = line (ascii "  number    rank   staff      to   doors      to quarter      to  does")
+grantHeads = line (ascii "  number    rank   staff      to   doors      to quarter   until  does")
 
 abbrev pub grantRow : Grant → List ℕ
 grantRow g = line (columns (g .number ∷ g .rank ∷ boxValues (g .bounds)) ++ ascii "  " ++ kindText (g .kind))
@@ -54,7 +50,7 @@ touchingRow g precedence base =
     line
     (columns (g .number ∷ g .rank ∷ b .«staff_from» ∷ b .«staff_to» ∷ b .«quarter_to» ∷ [])
     ++ ascii "  "
-    ++ momentColumn (shownBase base) (untilOf g)
+    ++ momentColumn (shownBase base) (b .«quarter_to»)
     ++ ascii "  "
     ++ kindText (g .kind)
     ++ precedenceText precedence)

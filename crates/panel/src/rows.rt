@@ -25,13 +25,6 @@ use text::put::put_text;
 // Room for the longest row.
 pub const ROW_BYTES: usize = 192;
 
-// The quarter after one.
-fn quarter_after(quarter: u16) -> usize
-    ensures { λ r. ⌜ (r ≡ quarter + 1) × (r ≤ wordValues) ⌝ }
-{
-    wide(quarter) + 1
-}
-
 fn put_kind(out: &mut [u8], at: usize, kind: Kind) -> usize
     requires { ⌜ at + 5 ≤ length (now out) ⌝ }
     ensures { λ r. ⌜ Put (now (out .entry)) at (kindText kind) r (now (out .exit)) × (r ≤ at + 5) ⌝ }
@@ -73,7 +66,7 @@ pub fn put_heads(out: &mut [u8], at: usize) -> usize
     put_text(
         out,
         at,
-        b"  number    rank   staff      to   doors      to quarter      to  does\n",
+        b"  number    rank   staff      to   doors      to quarter   until  does\n",
     )
 }
 
@@ -137,7 +130,7 @@ pub fn touching_row(
     ];
     let gap = put_columns(out, 0, &values);
     let until = put_text(out, gap, b"  ");
-    let next = put_moment_column(out, until, base, quarter_after(b.quarter_to));
+    let next = put_moment_column(out, until, base, wide(b.quarter_to));
     let word = put_text(out, next, b"  ");
     let but = put_kind(out, word, kind);
     let end = put_precedence(out, but, precedence);
@@ -153,7 +146,7 @@ fn put_times_from(out: &mut [u8], at: usize, base: Date, g: Grant) -> usize
     let from = put_text(out, at, b"from ");
     let gap = put_moment(out, from, base, wide(b.quarter_from));
     let until = put_text(out, gap, b" until ");
-    let end = put_moment(out, until, base, quarter_after(b.quarter_to));
+    let end = put_moment(out, until, base, wide(b.quarter_to));
     put_byte(out, end, b'\n')
 }
 

@@ -1,7 +1,10 @@
 // Who may open this door at this quarter: the grants that touch both, ascending by number, a grant at a time, each with how far it stands
-// among them (specs/Touching). Refuses by 1, then 9, as decide does. Searches afresh for each, so that nothing is kept between two rows.
+// among them (specs/Touching). Refuses by 1, then 9, as decide does, and walks nothing at the highest quarter. Searches afresh for each, so that
+// nothing is kept between two rows.
 ghost use mathlib.Core.Path.{_≡_};
+ghost use Prim.Native.Nat.{_<_};
 ghost use Rattle.lists.specs.Sort.{sortBy};
+ghost use Rattle.model.specs.Quarters.{topQuarter};
 ghost use Rattle.steps.specs.Hits.{CellsAt, grantsAt};
 ghost use Rattle.panel.specs.Touching.{doorBox, placed, touchingAt};
 use adt::search::HitCells;
@@ -10,6 +13,7 @@ use geometry::range::range_of_box;
 use model::Box;
 use model::Fault;
 use model::Grant;
+use model::bounds::is_coverable;
 use pool::cell::grant_at;
 use pool::layout::MAX_CAPACITY;
 use pool::layout::capacity;
@@ -29,8 +33,9 @@ pub enum Touching {
     Refused(Fault),
 }
 
-// One door and one quarter, with the staff axis free.
+// One door and one quarter that a grant can cover, with the staff axis free.
 fn door_box(door: u16, quarter: u16) -> Box
+    requires { ⌜ quarter < topQuarter ⌝ }
     ensures { λ r. ⌜ r ≡ doorBox door quarter ⌝ }
 {
     Box {
@@ -39,7 +44,7 @@ fn door_box(door: u16, quarter: u16) -> Box
         door_from: door,
         door_to: door,
         quarter_from: quarter,
-        quarter_to: quarter,
+        quarter_to: quarter + 1,
     }
 }
 
@@ -73,6 +78,9 @@ pub fn touching_at(pool: &[u16], door: u16, quarter: u16, i: usize) -> Touching
     let cells = capacity(pool);
     if cells == 0 {
         return Touching::Refused(Fault::BadPool);
+    }
+    if !is_coverable(quarter) {
+        return Touching::End;
     }
     let range = range_of_box(door_box(door, quarter));
     let mut hits = [0u16; MAX_CAPACITY];

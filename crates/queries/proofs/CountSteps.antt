@@ -24,7 +24,7 @@ use Rattle.queries.proofs.LookSteps.{look-bad, look-broken, look-done}
 module _ (w : List ℕ) {c : ℕ} (e : c ≡ poolCapacity w) where
   pub count-bad : c ≡ 0 → refusal BadPool ≡ countCall w .answer
   unfolding countCall
-  count-bad z = look-bad w rangeOfAll _ e z
+  count-bad z = look-bad w _ e _ z
 
   module _ (n : ¬ (c ≡ 0)) {q : Region} (all : q ≡ rangeOfAll) (h : List ℕ) {r : Hits} (f : HitsFound w q h r) where
     pub count-broken : r ≡ Broken → refusal BrokenLinks ≡ countCall w .answer

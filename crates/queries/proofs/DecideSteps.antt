@@ -1,12 +1,16 @@
 -- What decide answers, test by test.
---   decide-bad, decide-broken, decide-done    the pool is refused; the search is broken; the grants hit decide
+--   decide-bad, decide-late, decide-broken, decide-done    the pool is refused; no grant covers the quarter; the search is broken; the grants
+--                                                          hit decide
 -- Assumes nothing.
 use Prim.Native.Nat.{ℕ}
 use mathlib.Core.Path.{_≡_, sym, ap, _∙_}
+use mathlib.Core.Bool.{true, false}
 use mathlib.Core.List.{List, map}
 use Rattle.model.specs.declared.Box.{Box}
 use Rattle.model.specs.declared.Decision.{Decision}
+use Rattle.model.specs.declared.Decision.the-variants as decision
 use Rattle.model.specs.declared.Fault.the-variants.{BadPool, BrokenLinks}
+use Rattle.model.specs.Quarters.{coverable}
 use Rattle.model.specs.Box.{pointBox}
 use Rattle.model.specs.Answer.{decisionAnswer, refusal}
 use Rattle.model.specs.Decide.{decideAmong}
@@ -19,7 +23,7 @@ use Rattle.steps.specs.declared.hits.Hits.the-variants.{Broken, Found}
 use Rattle.steps.specs.Hits.{HitsFound, grantsAt}
 use Rattle.calls.specs.Calls.{decideCall}
 use Rattle.steps.proofs.HitsLaws.{found-hits}
-use Rattle.queries.proofs.LookSteps.{look-bad, look-broken, look-done}
+use Rattle.queries.proofs.LookSteps.{look-bad, look-unwalked, look-broken, look-done}
 
 module _ (w : List ℕ) (staff door quarter : ℕ) {c : ℕ} (e : c ≡ poolCapacity w) where
   abbrev range : Region
@@ -27,20 +31,25 @@ module _ (w : List ℕ) (staff door quarter : ℕ) {c : ℕ} (e : c ≡ poolCapa
 
   pub decide-bad : c ≡ 0 → refusal BadPool ≡ decideCall w staff door quarter .answer
   unfolding decideCall
-  decide-bad z = look-bad w range _ e z
+  decide-bad z = look-bad w _ e _ z
 
-  module _ (n : ¬ (c ≡ 0)) {b : Box} {q : Region} (point : b ≡ pointBox staff door quarter) (a : q ≡ rangeOfBox b) where
+  pub decide-late : ¬ (c ≡ 0) → coverable quarter ≡ false → decisionAnswer decision.None ≡ decideCall w staff door quarter .answer
+  unfolding decideCall decideAmong
+  decide-late n late = rw late (look-unwalked w _ e n)
+
+  module _ (n : ¬ (c ≡ 0)) (early : coverable quarter ≡ true) {b : Box} {q : Region} (point : b ≡ pointBox staff door quarter) (a : q ≡ rangeOfBox b) where
     asked : q ≡ range
     asked = a ∙ ap rangeOfBox point
 
     module _ (h : List ℕ) {r : Hits} (f : HitsFound w q h r) where
       pub decide-broken : r ≡ Broken → refusal BrokenLinks ≡ decideCall w staff door quarter .answer
       unfolding decideCall
-      decide-broken i = look-broken w range _ e n asked h f i
+      decide-broken i = rw early (look-broken w range _ e n asked h f i)
 
       pub decide-done : {found : ℕ} → r ≡ Found found → {d : Decision} → d ≡ decideAmong (grantsAt w h found)
           → decisionAnswer d ≡ decideCall w staff door quarter .answer
       unfolding decideCall
       decide-done i decided =
-          ap decisionAnswer (decided ∙ ap (λ (ks : List ℕ). decideAmong (map (grantAt w) ks)) (sym (found-hits w asked h f i .found)))
-          ∙ look-done w range _ e n asked h f i
+          rw early
+          (ap decisionAnswer (decided ∙ ap (λ (ks : List ℕ). decideAmong (map (grantAt w) ks)) (sym (found-hits w asked h f i .found)))
+          ∙ look-done w range _ e n asked h f i)

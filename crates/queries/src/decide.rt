@@ -1,4 +1,5 @@
-// decide: opens or barred with the whole grant that decides, or none (document 01, "The plain book"). Refuses by 1, then 9.
+// decide: opens or barred with the whole grant that decides, or none (document 01, "The plain book"). Refuses by 1, then 9. At the highest
+// quarter, which no grant covers, it walks nothing (document 02, card 2).
 ghost use mathlib.Core.Path.{_≡_};
 ghost use Rattle.model.specs.Answer.{decisionAnswer};
 ghost use Rattle.model.specs.Decide.{decideAmong};
@@ -8,6 +9,7 @@ use adt::search::HitCells;
 use geometry::range::range_of_box;
 use model::Decision;
 use model::Fault;
+use model::bounds::is_coverable;
 use model::decide::decision_of;
 use model::decide::outranks;
 use model::decide::point_box;
@@ -44,6 +46,9 @@ pub fn decide(pool: &[u16], staff: u16, door: u16, quarter: u16) -> Decision
     let cells = capacity(pool);
     if cells == 0 {
         return Decision::Refused(Fault::BadPool);
+    }
+    if !is_coverable(quarter) {
+        return Decision::None;
     }
     let range = range_of_box(point_box(staff, door, quarter));
     let mut hits = [0u16; MAX_CAPACITY];

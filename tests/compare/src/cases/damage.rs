@@ -1,6 +1,6 @@
 //! Damage to a grants file, field by field with the check made right again: every cause of 11 and 13 that a block can have.
 
-use crate::oracle::file::{number_at, put_number, seal, BLOCK, CHECK, FIRST_RECORD, HEAD_END, RECORD};
+use crate::oracle::file::{number_at, put_number, seal, BLOCK, CHECK, FIRST_RECORD, HEAD_END, OLDER_MARK, RECORD};
 use crate::oracle::judge::records_end;
 use crate::oracle::wrong::Wrong;
 
@@ -59,6 +59,7 @@ impl Puts<'_> {
             let byte = self.file[at];
             self.bytes(at, &[byte ^ 1, byte ^ 0x80, 0]);
         }
+        self.put(0, &OLDER_MARK);
         let i = self.block as u16;
         self.numbers(4, &[i.wrapping_sub(1), i + 1, i + 256, 65535]);
         for at in [fill, fill + 1, (fill + CHECK) / 2, CHECK - 2, CHECK - 1] {
@@ -93,7 +94,7 @@ impl Puts<'_> {
         self.put(0, &block);
     }
 
-    /// A record: its number against its neighbours, kind, spans, doors that touch or just don't.
+    /// A record: its number against its neighbours, kind, spans, quarters that cover one or none, doors that touch or just don't.
     fn record(&mut self, i: usize, doors: (u16, u16)) {
         let at = FIRST_RECORD + RECORD * i;
         let number = self.number(at);
@@ -109,6 +110,8 @@ impl Puts<'_> {
             let (from, to) = (self.number(field), self.number(field + 2));
             self.spans(field, &[(to.wrapping_add(1), to), (from, from.wrapping_sub(1)), (65535, 0), (1, 0), (65535, 65534)]);
         }
+        let (from, to) = (self.number(at + 12), self.number(at + 14));
+        self.spans(at + 12, &[(from, from), (to, to), (0, 0), (65535, 65535), (0, 1), (65534, 65535), (0, 65535)]);
         let (below, above) = (doors.0.wrapping_sub(1), doors.1.wrapping_add(1));
         self.spans(
             at + 8,

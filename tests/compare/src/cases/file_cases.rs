@@ -6,7 +6,7 @@ use crate::cases::random::Random;
 use crate::cases::styles::{make_senior, Style};
 use crate::interface::call::Call;
 use crate::interface::grant::{Grant, Span};
-use crate::oracle::file::{check, file_of, number_at, put_number, BLOCK, CHECK, MOST_BLOCKS};
+use crate::oracle::file::{check, file_of, number_at, put_number, BLOCK, CHECK, MOST_BLOCKS, OLDER_MARK};
 use crate::oracle::layout::words_for;
 use crate::oracle::wrong::Wrong;
 use std::rc::Rc;
@@ -109,6 +109,14 @@ pub fn block_reads(file: &[u8]) -> Case {
     case(file, calls)
 }
 
+/// The older mark in each block from one on; from block 0 on, it is a file of the older form.
+pub fn older_marks(file: &[u8]) -> Case {
+    let count = blocks_in(file);
+    let older = |block| Put { block, at: 0, bytes: OLDER_MARK.to_vec(), sealed: true };
+    let from = |first| damaged(file, &(first..count).map(older).collect::<Vec<Put>>());
+    case(file, (0..count).flat_map(|first| calls_on(from(first), first as u64)))
+}
+
 /// A file onto a pool that held anything, and onto an empty index.
 pub fn onto_pools(file: &[u8], capacity: usize) -> Case {
     let file: Rc<[u8]> = file.into();
@@ -122,7 +130,7 @@ pub fn checks_too_large(random: &mut Random) -> Case {
     let mut file = sample(random, 40);
     let last = &mut file[2 * BLOCK..];
     put_number(last, 8 + 12, 0);
-    for quarter_to in 0..=65535 {
+    for quarter_to in 1..=65535 {
         put_number(last, 8 + 14, quarter_to);
         if check(&last[..CHECK]) < 15 {
             break;

@@ -2,7 +2,7 @@
 
 use crate::cases::case::Case;
 use crate::cases::random::Random;
-use crate::cases::styles::{make_senior, spoil, Style};
+use crate::cases::styles::{make_senior, quarter_near, spoil, Style};
 use crate::interface::call::Call;
 use crate::interface::grant::{Bounds, Grant, Span};
 use crate::oracle::arguments::argument_fault;
@@ -89,20 +89,11 @@ impl Clerk<'_> {
 
     /// A box of its own, or that of a live grant, or right beside it.
     fn bounds(&mut self) -> Bounds {
-        match self.book.live.is_empty() || self.random.one_in(2) {
-            true => self.style.bounds(self.random),
-            false => {
-                let of = self.book.live[self.random.below(self.book.live.len())].bounds;
-                of.map(|span| match self.random.below(6) {
-                    0 => (span.1, span.1),
-                    1 => (span.1.saturating_add(1), 65535),
-                    2 => (0, span.0),
-                    3 => (0, span.0.saturating_sub(1)),
-                    4 => (0, 65535),
-                    _ => span,
-                })
-            }
+        if self.book.live.is_empty() || self.random.one_in(2) {
+            return self.style.bounds(self.random);
         }
+        let [staff, doors, quarters] = self.book.live[self.random.below(self.book.live.len())].bounds;
+        [span_beside(self.random, staff), span_beside(self.random, doors), quarters_beside(self.random, quarters)]
     }
 
     /// What is needed, one less, more, nothing, or more than any pool needs; a length that is none when it is cut to 16 bits.
@@ -127,7 +118,11 @@ impl Clerk<'_> {
     fn decide(&mut self) {
         let point = match self.random.one_in(2) {
             true => self.style.point(self.random),
-            false => self.bounds().map(|span| self.random.pick(&[span.0, span.1])),
+            false => {
+                let [staff, doors, quarters] = self.bounds();
+                let mut end_of = |span: Span| self.random.pick(&[span.0, span.1]);
+                [end_of(staff), end_of(doors), quarter_near(self.random, quarters)]
+            }
         };
         self.calls.push(Call::Decide(point));
     }
@@ -180,6 +175,33 @@ impl Clerk<'_> {
             2 => Call::Write(grant.bounds[1], self.random.below(600)),
             _ => Call::Grant(grant),
         });
+    }
+}
+
+/// A span of staff or doors, or one that ends or begins where it does, or just not there.
+fn span_beside(random: &mut Random, span: Span) -> Span {
+    match random.below(6) {
+        0 => (span.1, span.1),
+        1 => (span.1.saturating_add(1), 65535),
+        2 => (0, span.0),
+        3 => (0, span.0.saturating_sub(1)),
+        4 => (0, 65535),
+        _ => span,
+    }
+}
+
+/// Quarters, or those that touch them, or share just one with them; at 0 and 65535 those that touch cover nothing.
+fn quarters_beside(random: &mut Random, quarters: Span) -> Span {
+    let (from, to) = quarters;
+    match random.below(8) {
+        0 => (to, to.saturating_add(1)),
+        1 => (to, 65535),
+        2 => (0, from),
+        3 => (from.saturating_sub(1), from),
+        4 => (0, from + 1),
+        5 => (to - 1, 65535),
+        6 => (0, 65535),
+        _ => quarters,
     }
 }
 

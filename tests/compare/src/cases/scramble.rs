@@ -3,9 +3,9 @@
 use crate::cases::case::Case;
 use crate::cases::histories::set_of_grants;
 use crate::cases::random::Random;
-use crate::cases::styles::{spoil, Style};
+use crate::cases::styles::{quarter_near, spoil, Style};
 use crate::interface::call::Call;
-use crate::interface::grant::{Grant, Span, EVERYTHING};
+use crate::interface::grant::{Bounds, Grant, Span, EVERYTHING};
 use crate::oracle::file::file_of;
 use crate::oracle::honest::Honest;
 use crate::oracle::layout::{cell_words, left_of, put_cell, right_of, words_for, FREE_HEAD, ROOT};
@@ -27,7 +27,7 @@ pub fn scrambled(random: &mut Random, most: usize) -> Case {
     };
     let style = Style::any(random, capacity);
     let mut grant = style.grant(random);
-    let words = match random.below(10) {
+    let words = match random.below(11) {
         0 => noise(random, capacity),
         1 | 2 => plausible(random, capacity, style),
         3 => cycle(random, capacity, style),
@@ -35,6 +35,7 @@ pub fn scrambled(random: &mut Random, most: usize) -> Case {
         5 => removal_trap(random, capacity, &mut grant),
         6 => wrong_frame(random, capacity),
         7 => lowered(random, capacity, style),
+        8 => emptied(random, capacity, style),
         _ => changed(random, capacity, style),
     };
     let scrambled = Scrambled { words, grant };
@@ -54,6 +55,18 @@ impl Scrambled {
         }
     }
 
+    /// All staff and doors, and quarters from just before those of a cell or not, to just behind them or not.
+    fn around_a_cell(&self, random: &mut Random) -> Bounds {
+        let cells = self.words.len().saturating_sub(3) / 10;
+        if cells == 0 {
+            return EVERYTHING;
+        }
+        let cell = cell_words(&self.words, random.below(cells) as u16 + 1);
+        let (low, high) = (cell[8].min(cell[9]), cell[8].max(cell[9]));
+        let quarters = (low.saturating_sub(random.below(2) as u16), high.saturating_add(random.below(2) as u16));
+        [EVERYTHING[0], EVERYTHING[1], quarters]
+    }
+
     fn call(&self, random: &mut Random, style: Style) -> Call {
         let bounds = if random.one_in(2) { self.grant.bounds } else { style.bounds(random) };
         let mut grant = Grant { number: self.number(random), bounds, ..self.grant };
@@ -65,8 +78,15 @@ impl Scrambled {
             0..=3 => Call::Grant(grant),
             4..=5 => Call::Grant(self.grant),
             6..=9 => Call::Revoke(number),
-            10..=12 => Call::List(if random.one_in(4) { EVERYTHING } else { bounds }, lent(random, &[0, 1, 2, 12, 2048])),
-            13..=15 => Call::Decide(bounds.map(|span| random.pick(&[span.0, span.1]))),
+            10..=12 => {
+                let asked = [EVERYTHING, self.around_a_cell(random), bounds, bounds];
+                Call::List(random.pick(&asked), lent(random, &[0, 1, 2, 12, 2048]))
+            }
+            13..=15 => {
+                let [staff, doors, quarters] = bounds;
+                let mut end_of = |span: Span| random.pick(&[span.0, span.1]);
+                Call::Decide([end_of(staff), end_of(doors), quarter_near(random, quarters)])
+            }
             16..=18 => Call::Write(bounds[1], lent(random, &[0, 511, 512, 1024, 4096, 34816])),
             19..=20 => Call::Match(file(random, style, bounds[1]).into()),
             21 if random.one_in(6) => Call::Load(file(random, style, bounds[1]).into()),
@@ -231,6 +251,26 @@ fn lowered(random: &mut Random, capacity: usize, style: Style) -> Vec<u16> {
             let rank_word = left_of(cell) + 3;
             words[rank_word] %= 2 * 200;
         }
+    }
+    words
+}
+
+/// The pool of an honest history with the quarters of some cells made such as no grant has: equal, reversed, or overlapped by no box.
+fn emptied(random: &mut Random, capacity: usize, style: Style) -> Vec<u16> {
+    let grants = set_of_grants(random, style, capacity, (0, 65535));
+    let mut words = Honest::load(capacity, &grants, Wrong::Nothing).words;
+    for cell in 1..=capacity as u16 {
+        let quarters = &mut words[left_of(cell) + 8..][..2];
+        let (from, to) = (quarters[0], quarters[1]);
+        let odd = match random.below(6) {
+            0 => [from, from],
+            1 => [to, to],
+            2 => [to, from],
+            3 => [65535, to],
+            4 => [from, 0],
+            _ => [from, to],
+        };
+        quarters.copy_from_slice(&odd);
     }
     words
 }

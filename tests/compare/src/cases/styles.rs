@@ -1,7 +1,7 @@
 //! Random grants and boxes of several styles: each run of calls keeps to one, so that grants meet each other.
 
 use crate::cases::random::Random;
-use crate::interface::grant::{Bounds, Grant, Span, DOORS, EVERYTHING};
+use crate::interface::grant::{Bounds, Grant, Span, DOORS, EVERYTHING, LAST_COVERED, LAST_QUARTER, QUARTERS};
 use crate::oracle::arguments::rank_too_low;
 use crate::oracle::wrong::Wrong;
 
@@ -84,10 +84,17 @@ impl Style {
         }
     }
 
+    /// Quarters of which the first and the last are a span's, as far as a grant can cover them: half-open, so that one is covered at
+    /// least, and a later one may begin where they end.
+    fn quarters(&self, random: &mut Random) -> Span {
+        let (first, last) = self.span(random);
+        (first.min(LAST_COVERED), last.min(LAST_COVERED) + 1)
+    }
+
     pub fn bounds(&self, random: &mut Random) -> Bounds {
         match self.values {
             Values::OneBox(bounds) => bounds,
-            _ => [self.span(random), self.span(random), self.span(random)],
+            _ => [self.span(random), self.span(random), self.quarters(random)],
         }
     }
 
@@ -117,10 +124,18 @@ impl Style {
         grant
     }
 
-    /// A point to ask at: any, or an end of a box.
+    /// A point to ask at: an end of a box, or right beside it.
     pub fn point(&self, random: &mut Random) -> [u16; 3] {
-        self.bounds(random).map(|span| random.pick(&[span.0, span.1, span.0.saturating_sub(1), span.1.saturating_add(1)]))
+        let [staff, doors, quarters] = self.bounds(random);
+        let mut near = |span: Span| random.pick(&[span.0, span.1, span.0.saturating_sub(1), span.1.saturating_add(1)]);
+        [near(staff), near(doors), quarter_near(random, quarters)]
     }
+}
+
+/// A quarter to ask at: the first or the last that is covered, the one before or behind them, or one of the last two there are.
+pub fn quarter_near(random: &mut Random, quarters: Span) -> u16 {
+    let (first, last) = (quarters.0, quarters.1.saturating_sub(1));
+    random.pick(&[first, first, last, last, first.saturating_sub(1), quarters.1, LAST_COVERED, LAST_QUARTER])
 }
 
 /// Raises a rank that is too low for its doors; equal ranks stay equal.
@@ -144,7 +159,7 @@ fn widened(random: &mut Random, doors: Span, apart: &[u16]) -> Span {
 }
 
 /// Puts one or several faults into a grant that is to be an argument: number 0, kind above 1, a rank too low for its doors, a span
-/// reversed.
+/// reversed, quarters equal.
 pub fn spoil(random: &mut Random, grant: &mut Grant) {
     let faults = 1 + random.below(15);
     if faults & 8 != 0 {
@@ -158,7 +173,12 @@ pub fn spoil(random: &mut Random, grant: &mut Grant) {
         grant.kind = random.byte() | 2;
     }
     if faults & 4 != 0 {
-        let span = &mut grant.bounds[random.below(3)];
-        *span = (span.0 | 1, span.0 & 0xFFFE);
+        let which = random.below(3);
+        let span = &mut grant.bounds[which];
+        let end = random.pick(&[span.0, span.1, 0, LAST_QUARTER]);
+        *span = match which == QUARTERS && random.one_in(2) {
+            true => (end, end),
+            false => (span.0 | 1, span.0 & 0xFFFE),
+        };
     }
 }

@@ -2,7 +2,7 @@
 
 use crate::cases::case::Case;
 use crate::cases::file_cases::{
-    block_reads, byte_by_byte, checks_too_large, field_by_field, grants_in, lengths, onto_pools, sample, two_at_once,
+    block_reads, byte_by_byte, checks_too_large, field_by_field, grants_in, lengths, older_marks, onto_pools, sample, two_at_once,
 };
 use crate::cases::histories::history;
 use crate::cases::openings::{falling_quarters, full_records, long_records, small_records, too_many_entries, two_faults};
@@ -54,6 +54,7 @@ fn files<E>(random: &mut Random, i: usize, visit: Visit<E>) -> Result<(), E> {
     visit(Family::File, &two_at_once(random, &file, 60))?;
     visit(Family::File, &byte_by_byte(random, &file, 29, i.is_multiple_of(2)))?;
     visit(Family::File, &block_reads(&file))?;
+    visit(Family::File, &older_marks(&file))?;
     if i.is_multiple_of(FILE_SIZES.len()) {
         visit(Family::File, &checks_too_large(random))?;
     }

@@ -1,13 +1,17 @@
-//! Grants and boxes (document 01, "The plain book").
+//! Grants and boxes (document 01, "The plain book"; document 02, card 2).
 
-/// From and to; both ends belong to it.
+/// From and to. Of staff and of doors both ends belong to it; of quarters, the to is the first that is no longer covered.
 pub type Span = (u16, u16);
 
 /// Staff, doors, quarters.
 pub type Bounds = [Span; 3];
 
 pub const DOORS: usize = 1;
+pub const QUARTERS: usize = 2;
 pub const EVERYTHING: Bounds = [(0, 65535); 3];
+/// The last quarter there is, which no grant covers, and the last that one can cover.
+pub const LAST_QUARTER: u16 = 65535;
+pub const LAST_COVERED: u16 = 65534;
 
 #[derive(Clone, Copy, Debug, PartialEq, Eq)]
 pub struct Grant {

@@ -106,7 +106,7 @@ fn compared(numbers: lg::Comparison) -> Answer {
 
 fn bounds_to(bounds: &Bounds) -> lg::Bounds {
     let [staff, doors, quarters] = *bounds;
-    lg::Bounds { staff, doors, quarters }
+    lg::Bounds { staff, doors, quarters: lg::HalfOpen { from: quarters.0, until: quarters.1 } }
 }
 
 fn decided(decision: lg::Decision) -> Option<Grant> {
@@ -116,7 +116,8 @@ fn decided(decision: lg::Decision) -> Option<Grant> {
         lg::Decision::Barred(grant) => (grant, 0),
     };
     let lg::Bounds { staff, doors, quarters } = grant.bounds;
-    Some(Grant { number: grant.number, rank: grant.rank, kind, bounds: [staff, doors, quarters] })
+    let bounds = [staff, doors, (quarters.from, quarters.until)];
+    Some(Grant { number: grant.number, rank: grant.rank, kind, bounds })
 }
 
 /// Where a part lies in its file: the wrapper hands back a piece of the slice it was given.

@@ -1,9 +1,9 @@
-//! Document 01's plain book: the live grants in a plain list, every question a scan of it.
+//! The plain book of documents 01 and 02: the live grants in a plain list, every question a scan of it.
 
 use crate::interface::answer::{fault, Fault};
 use crate::interface::grant::{Bounds, Grant, Span, DOORS};
 use crate::oracle::arguments::rank_too_low;
-use crate::oracle::overlap::{boxes_overlap, spans_overlap};
+use crate::oracle::overlap::{box_holds, boxes_overlap, spans_overlap};
 use crate::oracle::wrong::Wrong;
 
 #[derive(Clone)]
@@ -55,6 +55,10 @@ impl Book {
         self.live.iter().filter(|grant| boxes_overlap(&grant.bounds, bounds, self.wrong)).copied().collect()
     }
 
+    fn holding(&self, point: [u16; 3]) -> Vec<Grant> {
+        self.live.iter().filter(|grant| box_holds(&grant.bounds, point, self.wrong)).copied().collect()
+    }
+
     /// The numbers that list writes into `lent` elements.
     pub fn list(&self, bounds: &Bounds, lent: usize) -> Result<Vec<u16>, Fault> {
         let mut grants = self.overlapping(bounds);
@@ -74,7 +78,7 @@ impl Book {
 
     /// The grants at a point that have the highest rank there, ascending by number.
     pub fn of_highest_rank(&self, point: [u16; 3]) -> Vec<Grant> {
-        let mut grants = self.overlapping(&point.map(|at| (at, at)));
+        let mut grants = self.holding(point);
         let highest = grants.iter().map(|grant| grant.rank).max();
         grants.retain(|grant| Some(grant.rank) == highest);
         grants

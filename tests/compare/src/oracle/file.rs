@@ -1,10 +1,12 @@
-//! The grants file as it is written (document 01, "The grants file").
+//! The grants file as it is written (document 01, "The grants file"; document 02, card 2).
 
 use crate::interface::grant::{Grant, Span, DOORS};
 use crate::oracle::wrong::Wrong;
 
 pub const BLOCK: usize = 512;
-pub const MARK: [u8; 4] = [0x4C, 0x47, 0x46, 0x31];
+pub const MARK: [u8; 4] = [0x4C, 0x47, 0x46, 0x32];
+/// The mark of files whose quarters were closed.
+pub const OLDER_MARK: [u8; 4] = [0x4C, 0x47, 0x46, 0x31];
 /// How many records a block holds.
 pub const RECORDS: usize = 31;
 pub const RECORD: usize = 16;

@@ -1,12 +1,12 @@
-//! Which files are accepted, and what they hold (document 01, "The grants file" and "Faults"): 10; then for each block rising
-//! 12, 11 and 13. A refusal names its cause and place too, so that the run can tell which were reached.
+//! Which files are accepted, and what they hold (document 01, "The grants file" and "Faults"; document 02, cards 2 and 3): 10; then for
+//! each block rising 12, 11 and 13. A refusal names its cause and place too, so that the run can tell which were reached.
 
 use crate::interface::answer::{fault, Fault};
 use crate::interface::grant::{Grant, Span, DOORS};
 use crate::oracle::arguments::rank_too_low;
 use crate::oracle::file::{
     blocks_for, check_of_block, grant_of_record, number_at, BLOCK, CHECK, FIRST_RECORD, HEAD_END, MARK, MOST_BLOCKS, MOST_GRANTS,
-    RECORD, RECORDS,
+    OLDER_MARK, RECORD, RECORDS,
 };
 use crate::oracle::overlap::spans_overlap;
 use crate::oracle::wrong::Wrong;
@@ -54,10 +54,18 @@ pub fn wrong_frame(block: &[u8], i: usize, wrong: Wrong) -> Option<(u8, &'static
     if wrong_check(block, wrong) {
         return Some((12, "check"));
     }
-    if block[..4] != MARK {
-        return Some((11, "mark"));
+    if let Some(cause) = wrong_mark(&block[..4], wrong) {
+        return Some((11, cause));
     }
     (usize::from(number_at(block, 4)) != i).then_some((11, "block number"))
+}
+
+/// The cause of 11 in a mark.
+fn wrong_mark(mark: &[u8], wrong: Wrong) -> Option<&'static str> {
+    match mark == OLDER_MARK {
+        true => (wrong != Wrong::OlderMarkTaken).then_some("older mark"),
+        false => (mark != MARK).then_some("mark"),
+    }
 }
 
 /// Whether a byte between the named ones and the check is not zero.
@@ -164,11 +172,14 @@ fn wrong_record(grant: &Grant, last: Option<u16>, at_edge: bool, doors: Span, wr
     if staff.0 > staff.1 {
         return Some("staff from above to");
     }
-    if own_doors.0 > own_doors.1 {
+    if own_doors.0 > own_doors.1 || wrong == Wrong::RecordsOfOneDoorRefused && own_doors.0 == own_doors.1 {
         return Some("door from above to");
     }
     if quarters.0 > quarters.1 {
         return Some("quarter from above to");
+    }
+    if quarters.0 == quarters.1 && wrong != Wrong::RecordsWithEqualQuartersTaken {
+        return Some("equal quarters");
     }
     let counted = match wrong {
         Wrong::OnlyTheFilesDoorsCount => (own_doors.0.max(doors.0), own_doors.1.min(doors.1)),

@@ -1,15 +1,22 @@
-//! Document 01's marked cases, tried on the plain implementation: what the library is held against is itself held to the paper.
+//! Document 01's marked cases, and cases of document 02's card 2, tried on the plain implementation: what the library is held against is
+//! itself held to the papers.
 
-use crate::interface::grant::Grant;
+use crate::interface::grant::{Grant, EVERYTHING};
 use crate::oracle::book::Book;
 use crate::oracle::file::check;
-use crate::oracle::overlap::spans_overlap;
-use crate::oracle::tree::{goes_left, halves, point_of, WHOLE};
+use crate::oracle::overlap::{box_holds, boxes_overlap, spans_overlap};
+use crate::oracle::tree::{goes_left, halves, holds, point_of, range_of, WHOLE};
 use crate::oracle::wrong::Wrong;
 
 /// The marked cases that the plain implementation gets wrong.
 pub fn failing() -> Vec<&'static str> {
-    let cases = [("checks", checks_hold()), ("axes and halves", halves_hold()), ("doors", doors_hold()), ("slips", slips_hold())];
+    let cases = [
+        ("checks", checks_hold()),
+        ("axes and halves", halves_hold()),
+        ("doors", doors_hold()),
+        ("quarters", quarters_hold()),
+        ("slips", slips_hold()),
+    ];
     cases.into_iter().filter(|(_, holds)| !holds).map(|(name, _)| name).collect()
 }
 
@@ -28,14 +35,27 @@ fn doors_hold() -> bool {
     spans_overlap((1, 40), (40, 50), Wrong::Nothing) && !spans_overlap((1, 40), (41, 50), Wrong::Nothing)
 }
 
-/// The slips of the paper, as calls on the book.
+/// A shift from 14:00 written to 22:00 is over at 22:00; two shifts that follow each other don't overlap; a cell with quarters 5 5 is a hit
+/// of the box 3 8.
+fn quarters_hold() -> bool {
+    let during = |from, to| [EVERYTHING[0], EVERYTHING[1], (from, to)];
+    let shift = during(56, 88);
+    let open = |quarter| box_holds(&shift, [1, 1, quarter], Wrong::Nothing);
+    let overlaps = |from, to| boxes_overlap(&shift, &during(from, to), Wrong::Nothing);
+    let is_hit = |from, to| holds(&range_of(&during(from, to), Wrong::Nothing), &point_of(1, &during(5, 5)));
+    let covered = !open(55) && open(56) && open(87) && !open(88);
+    let apart = !overlaps(24, 56) && overlaps(24, 57) && overlaps(87, 88) && !overlaps(88, 120);
+    covered && apart && is_hit(3, 8) && is_hit(4, 6) && !is_hit(3, 5) && !is_hit(5, 8)
+}
+
+/// The slips of the papers, as calls on the book.
 fn slips_hold() -> bool {
     let mut book = Book::new(2048, Wrong::Nothing);
     let seven = Grant { number: 7, rank: 10, kind: 1, bounds: [(100, 199), (1, 40), (32, 63)] };
     let three = Grant { number: 3, rank: 20, kind: 0, bounds: [(150, 150), (12, 12), (0, 65535)] };
     let granted = book.grant(seven).is_ok() && book.grant(three).is_ok();
-    let again = book.grant(Grant { bounds: [(0, 0); 3], ..seven }).is_err_and(|fault| fault.number == 5);
-    let listed = book.list(&[(150, 150), (1, 20), (40, 40)], 2048) == Ok(vec![3, 7]);
+    let again = book.grant(Grant { bounds: [(0, 0), (0, 0), (0, 1)], ..seven }).is_err_and(|fault| fault.number == 5);
+    let listed = book.list(&[(150, 150), (1, 20), (40, 41)], 2048) == Ok(vec![3, 7]);
     let decided = book.decide([150, 12, 40]) == Some(three) && book.decide([200, 12, 40]).is_none();
     let revoked = book.revoke(3) == Ok(three) && book.decide([150, 12, 40]) == Some(seven);
     granted && again && listed && decided && revoked && book.live.len() == 1

@@ -2,9 +2,9 @@
 
 use crate::interface::answer::{fault, Answer, Fault};
 use crate::interface::call::Call;
-use crate::interface::grant::Grant;
+use crate::interface::grant::{Grant, LAST_COVERED, LAST_QUARTER};
 use crate::interface::lent::Lent;
-use crate::oracle::arguments::{argument_fault, is_too_wide};
+use crate::oracle::arguments::{argument_fault, is_reversed_by_equal_quarters, is_too_wide};
 use crate::oracle::block_read;
 use crate::oracle::honest::Honest;
 use crate::oracle::judge::{self, judge, Contents};
@@ -21,7 +21,7 @@ pub struct Expected {
     pub lent: Lent,
     /// The pool's words are free: an accepted grant or revoke on a scrambled pool.
     pub pool_is_free: bool,
-    /// Which cause of a refusal was reached, in words.
+    /// What was reached that a run must reach, in words: the cause of a refusal, or how decide is answered at the last quarters.
     pub reached: Option<String>,
 }
 
@@ -84,7 +84,7 @@ impl Plain {
         let outcome = self.answer(call, &mut lent);
         let free = matches!(outcome, Ok(None));
         let (answer, reached) = match outcome {
-            Ok(answer) => (answer, None),
+            Ok(answer) => (answer, self.at_the_last_quarters(call)),
             Err((fault, cause)) => (Some(Answer::Refused(fault)), Some(format!("{} {}{cause}", call.name(), fault.number))),
         };
         Expected { answer, lent, pool_is_free: free && matches!(call, Call::Grant(_) | Call::Revoke(_)), reached }
@@ -105,7 +105,10 @@ impl Plain {
         if let (Call::Match(file), Wrong::FileBeforePool) = (call, self.wrong) {
             judge(file, self.wrong).map_err(file_cause)?;
         }
-        let capacity = self.capacity(call).ok_or_else(|| (fault(1), before_sixteen(call)))?;
+        if let (Call::Decide([_, _, LAST_QUARTER]), Wrong::LastQuarterBeforeThePool) = (call, self.wrong) {
+            return Ok(Some(Answer::Decided(None)));
+        }
+        let capacity = self.capacity(call).ok_or_else(|| (fault(1), beside_one(call)))?;
         match call {
             Call::Start => self.standing = Standing::Honest(Honest::start(capacity, self.wrong)),
             Call::Load(file) => self.load(capacity, file)?,
@@ -152,15 +155,43 @@ impl Plain {
         }
     }
 
-    /// Of a grant that breaks the rule of 16: which fault it has beside the one that answers.
+    /// Of a grant that breaks the rule of 16: which fault it has beside the one that answers. Of 2: whether equal quarters alone gave it.
     fn masked(&self, call: &Call, fault: Fault) -> String {
-        if fault.number != 16 {
-            return before_sixteen(call);
+        match fault.number {
+            16 => match scrambled::refusal(self.words(), call, None, Wrong::Nothing) {
+                Err((behind, _)) => format!(" before {}", behind.number),
+                Ok(()) => String::new(),
+            },
+            2 if is_reversed_by_equal_quarters(call) && !is_too_wide(call, Wrong::Nothing) => " equal quarters".to_string(),
+            _ => before_sixteen(call),
         }
-        match scrambled::refusal(self.words(), call, None, Wrong::Nothing) {
-            Err((behind, _)) => format!(" before {}", behind.number),
-            Ok(()) => String::new(),
-        }
+    }
+
+    /// Of an accepted decide: that a grant decides at 65534; that none does at 65535 although one does a quarter before, or although 9
+    /// would come there.
+    fn at_the_last_quarters(&self, call: &Call) -> Option<String> {
+        let Call::Decide([staff, door, quarter @ (LAST_COVERED | LAST_QUARTER)]) = *call else {
+            return None;
+        };
+        self.capacity(call)?; // Only a wrong version answers on what is no pool.
+        let before = [staff, door, LAST_COVERED];
+        let is_refused = |words| scrambled::refusal(words, &Call::Decide(before), None, Wrong::Nothing).is_err();
+        let reached = match (&self.standing, quarter) {
+            (Standing::Honest(honest), _) if honest.book.decide(before).is_none() => return None,
+            (Standing::Honest(_), LAST_QUARTER) => "decide none at 65535, a grant at 65534",
+            (Standing::Honest(_), _) => "decide a grant at 65534",
+            (Standing::Scrambled(words), LAST_QUARTER) if is_refused(words) => "decide none at 65535, 9 at 65534",
+            _ => return None,
+        };
+        Some(reached.to_string())
+    }
+}
+
+/// Of a call on what is no pool: what it asks that would answer otherwise.
+fn beside_one(call: &Call) -> String {
+    match call {
+        Call::Decide([_, _, LAST_QUARTER]) => " at 65535".to_string(),
+        _ => before_sixteen(call),
     }
 }
 
@@ -188,12 +219,10 @@ fn honest_step(
     answer.map(Some).map_err(|fault| (fault, String::new()))
 }
 
+/// What is accepted is free, but for decide at 65535: that is none on every pool.
 fn scrambled_step(words: &[u16], call: &Call, file: Option<&Contents>, wrong: Wrong) -> Result<Option<Answer>, Refused> {
-    match scrambled::refusal(words, call, file, wrong) {
-        Ok(()) => Ok(None),
-        Err((fault, None)) => Err((fault, " on a scrambled pool".to_string())),
-        Err((fault, Some(nine))) => Err((fault, format!(" {}: {}", nine.walk, nine.cause))),
-    }
+    scrambled::refusal(words, call, file, wrong)?;
+    Ok(matches!(call, Call::Decide([_, _, LAST_QUARTER])).then_some(Answer::Decided(None)))
 }
 
 fn file_cause(refusal: judge::Refusal) -> Refused {

@@ -2,8 +2,10 @@
 //! live grants, each with its point in its region and none behind more than 112 others.
 
 use crate::interface::grant::Grant;
+use crate::oracle::arguments::is_reversed;
 use crate::oracle::layout::{capacity_of, cell_words, left_of, right_of, FREE_HEAD, ROOT};
 use crate::oracle::tree::{halves, holds, point_in, Region, DEEPEST, WHOLE};
+use crate::oracle::wrong::Wrong;
 
 struct Reached<'a> {
     words: &'a [u16],
@@ -16,13 +18,14 @@ pub fn is_sound(words: &[u16], live: &[Grant]) -> bool {
 }
 
 /// The grants in the cells of a pool that is sound but for what the cells hold of rank, doors and the like, ascending by number. None
-/// where it isn't, or where its cells hold what the plain book can't: number 0, a number twice, a rank above 255, a span reversed.
+/// where it isn't, or where its cells hold what the plain book can't: number 0, a number twice, a rank above 255, a span reversed,
+/// quarters that cover nothing.
 pub fn grants_in(words: &[u16]) -> Option<Vec<Grant>> {
     let capacity = capacity_of(words)?;
     let live = (usize::from(words[0]) == capacity).then(|| reached_from(words))??;
     let numbered = live.first().is_none_or(|grant| grant.number > 0) && live.windows(2).all(|two| two[0].number < two[1].number);
     let ranked = (1..=capacity as u16).all(|cell| cell_words(words, cell)[3] < 512);
-    let ordered = live.iter().all(|grant| grant.bounds.iter().all(|span| span.0 <= span.1));
+    let ordered = live.iter().all(|grant| !is_reversed(&grant.bounds, Wrong::Nothing));
     (numbered && ranked && ordered).then_some(live)
 }
 

@@ -20,7 +20,7 @@ pub struct Difference {
 #[derive(Default)]
 pub struct Tally {
     pub calls: usize,
-    /// Each refusal by call, number and cause, and how often it was seen.
+    /// Each refusal by call, number and cause, and what else a run must reach; how often it was seen.
     pub reached: BTreeMap<String, usize>,
     /// How often a grant decided, and how often its number did, among grants of equal rank.
     pub decisions: usize,

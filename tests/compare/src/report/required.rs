@@ -1,6 +1,6 @@
-//! The refusals that a run must have seen: each fault of each call by the documents' order line, 16 together with each other fault of
-//! grant, each cause of 9 in each walk, each cause of 11, 12 and 13 in each block that can have it, each cause of 24 and 25 in either
-//! record of openings.
+//! What a run must have seen: each fault of each call by the documents' order line, 16 together with each other fault of grant, 2 by equal
+//! quarters alone, each cause of 9 in each walk, each cause of 11, 12 and 13 in each block that can have it, each cause of 24 and 25 in
+//! either record of openings; hits whose quarters cover nothing, and decide at the last quarters.
 
 use std::collections::BTreeMap;
 
@@ -23,18 +23,32 @@ const WITH_SIXTEEN: [&str; 7] = [
     "grant 16 before 6",
 ];
 const ON_SCRAMBLED: [&str; 5] = ["grant 5", "grant 6", "revoke 7", "list 8", "write 14"];
+const WITH_ODD_QUARTERS: [&str; 4] = [
+    "grant 2 equal quarters",
+    "list 2 equal quarters",
+    "list 8 on a scrambled pool, a hit with equal quarters",
+    "list 8 on a scrambled pool, a hit with reversed quarters",
+];
+const AT_THE_LAST_QUARTERS: [&str; 4] = [
+    "decide a grant at 65534",
+    "decide none at 65535, a grant at 65534",
+    "decide none at 65535, 9 at 65534",
+    "decide 1 at 65535",
+];
 const SEARCHING: [&str; 7] = ["grant", "revoke", "list", "decide", "count", "write", "match"];
 const OF_NINE: [&str; 3] = ["a link above C", "a cell below level 112", "more than C cells"];
 const OTHER_WALKS: [&str; 3] =
     ["grant 9 way down: a cell below level 112", "grant 9 free head: a link above C", "grant 9 free cell's left: a link above C"];
+const OF_FRAMES: [&str; 4] = ["12 check", "11 mark", "11 older mark", "11 block number"];
 const RECORD_BLOCKS: [&str; 3] = ["the first block of records", "a middle block", "the last block"];
-const OF_RECORDS: [&str; 8] = [
+const OF_RECORDS: [&str; 9] = [
     "number 0",
     "number not above the last",
     "kind",
     "staff from above to",
     "door from above to",
     "quarter from above to",
+    "equal quarters",
     "rank too low for its doors",
     "doors not touching",
 ];
@@ -51,7 +65,7 @@ pub fn missing(reached: &BTreeMap<String, usize>) -> Vec<String> {
     required.push("load 6".to_string());
     required.extend(of_block_read());
     required.extend(of_openings());
-    required.retain(|refusal| !reached.contains_key(refusal));
+    required.retain(|what| !reached.contains_key(what));
     required
 }
 
@@ -60,20 +74,21 @@ fn of_pools() -> Vec<String> {
     let scrambled = ON_SCRAMBLED.iter().map(|refusal| format!("{refusal} on a scrambled pool"));
     let searches = SEARCHING.iter().flat_map(|call| OF_NINE.iter().map(move |cause| format!("{call} 9 search: {cause}")));
     let removals = OF_NINE.iter().map(|cause| format!("revoke 9 removal: {cause}"));
-    let others = OTHER_WALKS.iter().chain(&WITH_SIXTEEN).map(|refusal| refusal.to_string());
-    by_call.chain(scrambled).chain(searches).chain(removals).chain(others).collect()
+    let others = OTHER_WALKS.iter().chain(&WITH_SIXTEEN).chain(&WITH_ODD_QUARTERS).chain(&AT_THE_LAST_QUARTERS);
+    by_call.chain(scrambled).chain(searches).chain(removals).chain(others.map(|what| what.to_string())).collect()
 }
 
 fn of_head(call: &str) -> Vec<String> {
-    let causes = ["12 check", "11 mark", "11 block number", "11 n above 2048", "11 block count", "11 door order", "11 fill"];
-    causes.iter().map(|cause| format!("{call} {cause}, block 0")).collect()
+    let counts = ["11 n above 2048", "11 block count", "11 door order", "11 fill"];
+    let causes = OF_FRAMES.iter().chain(&counts);
+    causes.map(|cause| format!("{call} {cause}, block 0")).collect()
 }
 
 fn of_blocks(call: &str) -> Vec<String> {
     let mut required = Vec::new();
     for place in RECORD_BLOCKS {
-        let causes = ["12 check", "11 mark", "11 block number", "11 record count", "11 fill"];
-        required.extend(causes.iter().map(|cause| format!("{call} {cause}, {place}")));
+        let causes = OF_FRAMES.iter().chain(&["11 record count", "11 fill"]);
+        required.extend(causes.map(|cause| format!("{call} {cause}, {place}")));
         required.extend(OF_RECORDS.iter().map(|cause| format!("{call} 13 {cause}, {place}")));
     }
     let edges = RECORD_BLOCKS[1..].iter();
@@ -84,8 +99,8 @@ fn of_blocks(call: &str) -> Vec<String> {
 fn of_block_read() -> Vec<String> {
     let mut required = vec!["block 10 length, the file".to_string(), "block 10 no such block, the file".to_string()];
     for place in RECORD_BLOCKS.iter().chain(&["block 0"]) {
-        let causes = ["12 check", "11 mark", "11 block number", "11 fill"];
-        required.extend(causes.iter().map(|cause| format!("block {cause}, {place}")));
+        let causes = OF_FRAMES.iter().chain(&["11 fill"]);
+        required.extend(causes.map(|cause| format!("block {cause}, {place}")));
     }
     required.extend(RECORD_BLOCKS.iter().map(|place| format!("block 11 record count, {place}")));
     required

@@ -26,9 +26,14 @@ pub struct Counts {
 }
 
 impl Counts {
+    /// The number of each refusal that was seen, once for each of its causes.
+    fn refusals(&self) -> impl Iterator<Item = u8> + '_ {
+        self.tally.reached.keys().filter_map(|reached| reached.split_whitespace().nth(1)?.parse().ok())
+    }
+
     /// How many of the documents' faults were seen.
     pub fn faults(&self) -> usize {
-        self.tally.reached.keys().filter_map(|refusal| refusal.split_whitespace().nth(1)).collect::<BTreeSet<_>>().len()
+        self.refusals().collect::<BTreeSet<_>>().len()
     }
 
     /// Runs a case; on a difference prints the shortest history that shows it.
@@ -89,7 +94,7 @@ fn summary(seed: u64, counts: &Counts, uncaught: usize) -> String {
         counts.pairs,
         counts.scrambled,
         counts.faults(),
-        counts.tally.reached.len(),
+        counts.refusals().count(),
         counts.tally.decisions,
         counts.tally.ties,
         wrong::ALL.len() - uncaught,

@@ -23,8 +23,8 @@ slice-aggregate-put-text-2 c = search needs
 put-text-requires-2 : tie.Need-put-text-requires-2
 put-text-requires-2 c κs = search needs
 
-quarter-after-requires : tie.Need-quarter-after-requires
-quarter-after-requires c κs = search needs
+wide-requires-2 : tie.Need-wide-requires-2
+wide-requires-2 c κs = search needs
 
 put-moment-requires-2 : tie.Need-put-moment-requires-2
 put-moment-requires-2 c κs = search needs
@@ -43,7 +43,7 @@ returns c =
     let from = until .before .before .before .before .before in
     let text = from .before .before .before .before .before .put-text .ensures in
     let times = put-then text (put-then (from .put-moment .ensures) (put-then (until .put-text2 .ensures) (end .put-moment2 .ensures))) in
-    rw (← from .before .wide .ensures .0, ← end .before .quarter-after .ensures .0) (
+    rw (← from .before .wide .ensures .0, ← end .before .wide2 .ensures .0) (
       put-then times (byte .put-byte .ensures),
       omega (
         arith,
@@ -65,7 +65,7 @@ put-times-from-spec =
     put-moment-requires
     slice-aggregate-put-text-2
     put-text-requires-2
-    quarter-after-requires
+    wide-requires-2
     put-moment-requires-2
     put-byte-requires
     same-length

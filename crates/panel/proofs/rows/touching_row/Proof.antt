@@ -24,8 +24,8 @@ slice-aggregate-put-text c = search needs
 put-text-requires : tie.Need-put-text-requires
 put-text-requires c κs = search needs
 
-quarter-after-requires : tie.Need-quarter-after-requires
-quarter-after-requires c κs = search needs
+wide-requires : tie.Need-wide-requires
+wide-requires c κs = search needs
 
 put-moment-column-requires : tie.Need-put-moment-column-requires
 put-moment-column-requires c κs = search needs
@@ -54,7 +54,7 @@ returns c =
     let first = moment .before .before .before in
     let columns = first .before .before .before in
     let args = columns .before .before .before .before .before .args in
-    let until = put-as (ap (momentColumn (shownBase (args .base))) (moment .before .quarter-after .ensures .0)) (moment .put-moment-column .ensures .0) in
+    let until = put-as (ap (momentColumn (shownBase (args .base))) (moment .before .wide .ensures .0)) (moment .put-moment-column .ensures .0) in
     let timed = put-then (put-then (put-then (columns .put-columns .ensures .0) (first .put-text .ensures)) until) (second .put-text2 .ensures) in
     let row = put-then (put-then timed (kind .put-kind .ensures .0)) (precedence .put-precedence .ensures .0) in
     put-line (put-then row (c .put-byte .ensures))
@@ -80,7 +80,7 @@ touching-row-spec =
     put-columns-requires
     slice-aggregate-put-text
     put-text-requires
-    quarter-after-requires
+    wide-requires
     put-moment-column-requires
     slice-aggregate-put-text-2
     put-text-requires-2

@@ -1,8 +1,11 @@
 -- `decide::decide` meets its contract, test by test. Assumes nothing.
+use Rattle.lists.proofs.TestLaws.{not-passed, not-failed}
+use Rattle.model.proofs.QuarterLaws.{coverable-below}
 use Rattle.calls.proofs.RefusalSteps.{pool-taken}
 use Rattle.steps.proofs.HitsLaws.{found-hits}
-use Rattle.queries.proofs.DecideSteps.{decide-bad, decide-broken, decide-done}
+use Rattle.queries.proofs.DecideSteps.{decide-bad, decide-late, decide-broken, decide-done}
 use mathlib.Core.Path.{refl, sym, subst}
+use native.Mathlib.Omega.{arith}
 use Rattle.geometry.specs.SearchRange.{OneSided}
 use Rattle.geometry.proofs.SearchRangeLaws.{box-one-sided}
 use borrow.Author.Needs.{needs}
@@ -17,15 +20,26 @@ returns c =
     let start = c .before .before .before in
     decide-bad (start .args .pool .now) (start .args .staff) (start .args .door) (start .args .quarter) (c .before .capacity .ensures) (c .if1 .taken)
 
+is-coverable-requires : tie.Need-is-coverable-requires
+is-coverable-requires c κs = search needs
+
+returns-2 : tie.Need-returns-2
+returns-2 c =
+    let asked = c .before in
+    let tested = asked .before in
+    let a = tested .before .before .before .args in
+    decide-late (a .pool .now) (a .staff) (a .door) (a .quarter) (tested .before .capacity .ensures) (tested .if1 .left)
+    (not-passed (asked .is-coverable .ensures) (c .if2 .taken))
+
 point-box-requires : tie.Need-point-box-requires
-point-box-requires c κs = search needs
+point-box-requires c κs = coverable-below _ (not-failed (c .before .is-coverable .ensures) (c .if2 .left))
 
 range-of-box-requires : tie.Need-range-of-box-requires
-range-of-box-requires c κs = search needs
+range-of-box-requires c κs = rw (c .point-box .ensures) (omega arith)
 
 find-hits-requires : tie.Need-find-hits-requires
 find-hits-requires c κs =
-    let tested = c .before .before .before .before in
+    let tested = c .before .before .before .before .before .before in
     let t = pool-taken _ (tested .before .capacity .ensures) (tested .if1 .left) in
     let range = c .before .before .range-of-box .ensures in
     record { sized = t .sized; one-sided = subst OneSided (sym range) (box-one-sided _); room = refl }
@@ -36,13 +50,15 @@ enum-known-found c = search needs
 enum-told : tie.Need-enum-told
 enum-told c = search needs
 
-returns-2 : tie.Need-returns-2
-returns-2 c =
+returns-3 : tie.Need-returns-3
+returns-3 c =
     let searched = c .before .before in
     let ranged = searched .before .before .before in
-    let tested = ranged .before .before in
+    let covered = ranged .before .before in
+    let tested = covered .before .before in
     let a = tested .before .before .before .args in
     decide-broken (a .pool .now) (a .staff) (a .door) (a .quarter) (tested .before .capacity .ensures) (tested .if1 .left)
+    (not-failed (covered .before .is-coverable .ensures) (covered .if2 .left))
     (ranged .before .point-box .ensures) (ranged .range-of-box .ensures) _ (searched .find-hits .ensures) (c .enum-told .given .1)
 
 decide-among-requires : tie.Need-decide-among-requires
@@ -50,14 +66,16 @@ decide-among-requires c κs =
     let found = c .before .before in
     found-hits _ refl _ (found .before .before .find-hits .ensures) (found .found .given .1) .cells
 
-returns-3 : tie.Need-returns-3
-returns-3 c =
+returns-4 : tie.Need-returns-4
+returns-4 c =
     let found = c .before .before .before in
     let searched = found .before .before in
     let ranged = searched .before .before .before in
-    let tested = ranged .before .before in
+    let covered = ranged .before .before in
+    let tested = covered .before .before in
     let a = tested .before .before .before .args in
     decide-done (a .pool .now) (a .staff) (a .door) (a .quarter) (tested .before .capacity .ensures) (tested .if1 .left)
+    (not-failed (covered .before .is-coverable .ensures) (covered .if2 .left))
     (ranged .before .point-box .ensures) (ranged .range-of-box .ensures) _ (searched .find-hits .ensures) (found .found .given .1) (c .decide-among .ensures)
 
 pub decide-spec : {M : Type 1} → statement M
@@ -66,11 +84,13 @@ decide-spec =
     (tie.spec
     capacity-requires
     returns
+    is-coverable-requires
+    returns-2
     point-box-requires
     range-of-box-requires
     find-hits-requires
     enum-known-found
     enum-told
-    returns-2
+    returns-3
     decide-among-requires
-    returns-3)
+    returns-4)

@@ -1,8 +1,9 @@
 -- `list::list` meets its contract, test by test. Assumes nothing.
+use Rattle.model.proofs.QuarterLaws.{forward-quarters}
 use Rattle.calls.proofs.RefusalSteps.{pool-taken}
 use Rattle.steps.proofs.HitsLaws.{found-hits, cells-part}
 use Rattle.queries.proofs.ListSteps.{list-bad, list-reversed, list-broken, list-short, list-done}
-use mathlib.Core.Path.{refl, sym, subst}
+use mathlib.Core.Path.{refl, sym, subst, _∙_}
 use lib.Seq.{length-take-le}
 use Rattle.geometry.specs.SearchRange.{OneSided}
 use Rattle.geometry.proofs.SearchRangeLaws.{box-one-sided}
@@ -29,7 +30,7 @@ returns-2 c =
     (tested .is-reversed .ensures) (c .if2 .taken)
 
 range-of-box-requires : tie.Need-range-of-box-requires
-range-of-box-requires c κs = search needs
+range-of-box-requires c κs = forward-quarters _ (sym (c .before .is-reversed .ensures) ∙ c .if2 .left)
 
 find-hits-requires : tie.Need-find-hits-requires
 find-hits-requires c κs =
