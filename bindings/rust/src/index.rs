@@ -46,7 +46,7 @@ impl Index {
         pool::start(&mut self.words)
     }
 
-    /// Adds a grant. Refuses 3, 2, 5 and 6, in this order.
+    /// Adds a grant. Refuses 3, 2, 16, 5 and 6, in this order.
     pub fn grant(&mut self, grant: &Grant) -> Result<(), Fault> {
         pool::grant(&mut self.words, grant.number, grant.rank, grant.kind.number(), grant.bounds)
     }
