@@ -17,6 +17,7 @@ use native.Mathlib.Numerals.{sub-one}
 use lib.ListN.{getD, set}
 use borrow.Author.Tests.{le-leb, lt-leb, eq-eqb, ne-eqb}
 use lib.Dec.{leb}
+use Rattle.model.specs.declared.Grant.{Grant}
 use Rattle.geometry.specs.declared.Side.{Side}
 use Rattle.geometry.specs.declared.Side.the-variants.{Left, Right}
 use Rattle.geometry.specs.Axis.{axes, axisOf}
@@ -64,47 +65,51 @@ module _ (q : Region) (n : ℕ) (s : Side) (g : Region) where
 pub encodes-as : {c : ℕ} {r b : Bool} {h h′ t t′ : List ℕ} {s : Search} → Encodes c r h t s → r ≡ b → h′ ≡ h → t′ ≡ t → Encodes c b h′ t′ s
 encodes-as d e i j = rw (i, j, ← e) d
 
-module _ (w : List ℕ) (c : ℕ) (q : Region) where
+module _ (w : List ℕ) (c : ℕ) (q : Region) (passes : Grant → Bool) where
   -- a search that goes on, at the link at the place `link`, whose value is k
   module _ (n link k : ℕ) (g : Region) (e : k ≡ getD w link 0) (met : ℕ) (hits : List ℕ) (first : Spot) where
     abbrev now : Search
     now = going met hits first
 
-    pub enter-blank : k ≡ 0 → now ≡ enter w c q n link g now
+    pub enter-blank : k ≡ 0 → now ≡ enter w c q passes n link g now
     unfolding enter
     enter-blank z = go n
       where
-        go : (n : ℕ) → now ≡ enter w c q n link g now
+        go : (n : ℕ) → now ≡ enter w c q passes n link g now
         go zero = rw (← e, eq-eqb k 0 z)
         go (suc n) = rw (← e, eq-eqb k 0 z)
 
     module _ (nz : ¬ (k ≡ 0)) where
-      pub enter-deep : n ≡ 0 → broken ≡ enter w c q n link g now
+      pub enter-deep : n ≡ 0 → broken ≡ enter w c q passes n link g now
       unfolding enter
       enter-deep z = rw (z, ← e, ne-eqb k 0 nz)
 
       module _ (some : ¬ (n ≡ 0)) where
-        enter-cases : enter w c q n link g now
-            ≡ cond (meets g q) (cond (leb k c) (visitBy w c q (enter w c q (n - 1)) (record { level = levels - (n - 1); link = link }) k g now) broken) now
+        -- what is left once the link leads to a cell, with n levels
+        abbrev behind : ℕ → Search
+        behind n =
+            let here : Spot = record { level = levels - (n - 1); link = link } in
+            cond (meets g q) (cond (leb k c) (visitBy w c q passes (enter w c q passes (n - 1)) here k g now) broken) now
+
+        enter-cases : enter w c q passes n link g now ≡ behind n
         unfolding enter
         enter-cases = go n some
           where
-            go : (n : ℕ) → ¬ (n ≡ 0) → enter w c q n link g now
-                ≡ cond (meets g q) (cond (leb k c) (visitBy w c q (enter w c q (n - 1)) (record { level = levels - (n - 1); link = link }) k g now) broken) now
+            go : (n : ℕ) → ¬ (n ≡ 0) → enter w c q passes n link g now ≡ behind n
             go zero z = absurd (z refl)
             go (suc n) z = rw (← e, ne-eqb k 0 nz, sub-one (suc n))
 
-        pub enter-apart : meets g q ≡ false → now ≡ enter w c q n link g now
+        pub enter-apart : meets g q ≡ false → now ≡ enter w c q passes n link g now
         enter-apart m = sym (enter-cases ∙ rw m)
 
-        pub enter-above : meets g q ≡ true → c < k → broken ≡ enter w c q n link g now
+        pub enter-above : meets g q ≡ true → c < k → broken ≡ enter w c q passes n link g now
         enter-above m a = sym (enter-cases ∙ rw (m, lt-leb k c a))
 
         pub enter-visits : {h : Region} → h ≡ g → meets g q ≡ true → k ≤ c
-            → visitBy w c q (enter w c q (n - 1)) (record { level = levels - (n - 1); link = link }) k h now ≡ enter w c q n link g now
+            → visitBy w c q passes (enter w c q passes (n - 1)) (record { level = levels - (n - 1); link = link }) k h now ≡ enter w c q passes n link g now
         enter-visits i m a = rw i (sym (enter-cases ∙ rw (m, le-leb k c a)))
 
-  enter-broken : (n link : ℕ) (g : Region) → enter w c q n link g broken ≡ broken
+  enter-broken : (n link : ℕ) (g : Region) → enter w c q passes n link g broken ≡ broken
   unfolding enter
   enter-broken zero link g = refl
   enter-broken (suc n) link g = refl
@@ -114,53 +119,53 @@ module _ (w : List ℕ) (c : ℕ) (q : Region) where
     abbrev s : Search
     s = searchIn true hits counters
 
-    pub child-deep : n ≡ 0 → Encodes c false hits counters (enter w c q n link g s)
+    pub child-deep : n ≡ 0 → Encodes c false hits counters (enter w c q passes n link g s)
     child-deep z = record { counted = counted; state = enter-deep n link _ g refl _ _ _ leads z }
 
     module _ (some : ¬ (n ≡ 0)) where
-      pub child-apart : meets g q ≡ false → Encodes c true hits counters (enter w c q n link g s)
+      pub child-apart : meets g q ≡ false → Encodes c true hits counters (enter w c q passes n link g s)
       child-apart m = record { counted = counted; state = enter-apart n link _ g refl _ _ _ leads some m }
 
       module _ (m : meets g q ≡ true) {k : ℕ} (e : k ≡ getD w link 0) where
         nz : ¬ (k ≡ 0)
         nz z = leads (sym e ∙ z)
 
-        pub child-past : c < k → Encodes c false hits counters (enter w c q n link g s)
+        pub child-past : c < k → Encodes c false hits counters (enter w c q passes n link g s)
         child-past past = record { counted = counted; state = enter-above n link k g e _ _ _ nz some m past }
 
         pub child-visited : k ≤ c → {half : Region} → half ≡ g → {r : Bool} {hits′ counters′ : List ℕ}
-            → Encodes c r hits′ counters′ (visited w c q hits counters k (n - 1) link half) → Encodes c r hits′ counters′ (enter w c q n link g s)
+            → Encodes c r hits′ counters′ (visited w c q passes hits counters k (n - 1) link half) → Encodes c r hits′ counters′ (enter w c q passes n link g s)
         child-visited few i v = record { counted = v .counted; state = v .state ∙ enter-visits n link k g e _ _ _ nz some i m few }
 
   -- the subtree of the cell k, of the region g, on a side
   module _ (n k : ℕ) (side : Side) (g : Region) (hits counters : List ℕ) where
     abbrev pub subtree : Search
-    subtree = enter w c q n (linkPlace k side) (half side g (axisOf (levels - n))) (searchIn true hits counters)
+    subtree = enter w c q passes n (linkPlace k side) (half side g (axisOf (levels - n))) (searchIn true hits counters)
 
     pub subtree-blank : {at : ℕ} → at ≡ linkPlace k side → getD w at 0 ≡ 0 → Counted c hits counters → Encodes c true hits counters subtree
     subtree-blank place z counted =
         record { counted = counted; state = enter-blank n _ _ _ (ap (λ (l : ℕ). getD w l 0) place) _ _ _ z }
 
     pub subtree-entered : n ≤ levels → {at : ℕ} → at ≡ linkPlace k side → {r : Bool} {h t : List ℕ}
-        → Encodes c r h t (entered w c q hits counters n at side g) → Encodes c r h t subtree
+        → Encodes c r h t (entered w c q passes hits counters n at side g) → Encodes c r h t subtree
     subtree-entered few place d = record { counted = d .counted; state = d .state ∙ rw (place, le-leb n levels few) }
 
   -- the three steps of a visit of the cell k, from what the memory stands for after each
   module _ (n link k : ℕ) (g : Region) (hits counters : List ℕ) where
-    steps : {s₁ s₂ s₃ : Search} → s₁ ≡ tested w c q hits counters k (levels - n) link
-        → s₂ ≡ enter w c q n (linkPlace k Left) (half Left g (axisOf (levels - n))) s₁
-        → s₃ ≡ enter w c q n (linkPlace k Right) (half Right g (axisOf (levels - n))) s₂ → s₃ ≡ visited w c q hits counters k n link g
+    steps : {s₁ s₂ s₃ : Search} → s₁ ≡ tested w c q passes hits counters k (levels - n) link
+        → s₂ ≡ enter w c q passes n (linkPlace k Left) (half Left g (axisOf (levels - n))) s₁
+        → s₃ ≡ enter w c q passes n (linkPlace k Right) (half Right g (axisOf (levels - n))) s₂ → s₃ ≡ visited w c q passes hits counters k n link g
     unfolding visitBy
     steps e₁ e₂ e₃ = e₃ ∙ rw (e₂, e₁)
 
-    module _ {r : Bool} {h t : List ℕ} (d : Encodes c r h t (tested w c q hits counters k (levels - n) link)) where
-      pub visit-cut : r ≡ false → Encodes c false h t (visited w c q hits counters k n link g)
+    module _ {r : Bool} {h t : List ℕ} (d : Encodes c r h t (tested w c q passes hits counters k (levels - n) link)) where
+      pub visit-cut : r ≡ false → Encodes c false h t (visited w c q passes hits counters k n link g)
       visit-cut e = record { counted = d .counted; state = steps (stands-as d e) (sym (enter-broken n _ _)) (sym (enter-broken n _ _)) }
 
       module _ (going : r ≡ true) {r₂ : Bool} {h₂ t₂ : List ℕ} (d₂ : Encodes c r₂ h₂ t₂ (subtree n k Left g h t)) where
-        pub visit-left-cut : r₂ ≡ false → Encodes c false h₂ t₂ (visited w c q hits counters k n link g)
+        pub visit-left-cut : r₂ ≡ false → Encodes c false h₂ t₂ (visited w c q passes hits counters k n link g)
         visit-left-cut e = record { counted = d₂ .counted; state = steps (stands-as d going) (stands-as d₂ e) (sym (enter-broken n _ _)) }
 
         pub visit-whole : r₂ ≡ true → {r₃ : Bool} {h₃ t₃ : List ℕ} → Encodes c r₃ h₃ t₃ (subtree n k Right g h₂ t₂)
-            → Encodes c r₃ h₃ t₃ (visited w c q hits counters k n link g)
+            → Encodes c r₃ h₃ t₃ (visited w c q passes hits counters k n link g)
         visit-whole e d₃ = record { counted = d₃ .counted; state = steps (stands-as d going) (stands-as d₂ e) (d₃ .state) }

@@ -17,6 +17,7 @@ use borrow.Author.Tests.{eqb-false, ltb-false}
 use Rattle.lists.specs.Tests.{any}
 use Rattle.lists.proofs.TestLaws.{filter-mem}
 use Rattle.lists.proofs.ElementLaws.{mem-getD}
+use Rattle.model.specs.declared.Grant.{Grant}
 use Rattle.geometry.specs.declared.Side.the-variants.{Left, Right}
 use Rattle.geometry.specs.Axis.{axisOf}
 use Rattle.geometry.specs.Levels.{levels}
@@ -24,7 +25,7 @@ use Rattle.geometry.specs.Region.{Region, half, meets}
 use Rattle.model.specs.Limits.{maxGrants}
 use Rattle.pool.specs.Capacity.{capacityOf}
 use Rattle.adt.specs.Node.{linkPlace}
-use Rattle.adt.specs.Search.{Spot, going, search}
+use Rattle.adt.specs.Search.{Spot, going, searchBy}
 use Rattle.adt.specs.SearchMemory.{foundIn, Encodes}
 use Rattle.adt.specs.Links.{Link, brokenBy, searchFrom, searchLinks, isHit, hitsAmong}
 use Rattle.adt.proofs.LinkLaws.{or-left, or-right}
@@ -83,22 +84,23 @@ pub record IsCell (c k : ℕ) : Type 0 where
   pub some : 0 < k
   pub few : k ≤ c
 
-pub hits-within : (w : List ℕ) (q : Region) (met : ℕ) (hits : List ℕ) (first : Spot) → search w q ≡ going met hits first
+pub hits-within : (w : List ℕ) (q : Region) (passes : Grant → Bool) (met : ℕ) (hits : List ℕ) (first : Spot) → searchBy w q passes ≡ going met hits first
     → (k : ℕ) → List·Memᴰ k hits → IsCell (capacityOf w) k
 unfolding brokenBy hitsAmong searchLinks
-hits-within w q met hits first e k m =
-    let s = search-going w q met hits first e in
+hits-within w q passes met hits first e k m =
+    let s = search-going w q passes met hits first e in
     let f = map-mem _ k (subst (List·Memᴰ k) (s .found) m) in
-    let on = filter-mem (isHit w q) _ (f .0) (f .2) .0 in
+    let on = filter-mem (isHit w passes) _ (f .0) (f .2) .0 in
     let some = links-some w q _ _ _ _ (f .0) on in
     let few = unbroken-below (capacityOf w) _ (or-left _ _ (s .whole)) (f .0) on in
     record { some = subst (λ (x : ℕ). 0 < x) (f .1) some; few = subst (λ (x : ℕ). x ≤ capacityOf w) (f .1) few }
 
-pub stands-within : (w : List ℕ) (q : Region) {c : ℕ} {h t : List ℕ} → Encodes c true h t (search w q) → c ≤ maxGrants → capacityOf w ≡ c
-    → (i : ℕ) → i < foundIn t → IsCell c (getD h i 0)
-stands-within w q {c} {h} {t} s few e i lt =
+pub stands-within : (w : List ℕ) (q : Region) (passes : Grant → Bool) {c : ℕ} {h t : List ℕ}
+    → Encodes c true h t (searchBy w q passes) → c ≤ maxGrants → capacityOf w ≡ c → (i : ℕ) → i < foundIn t → IsCell c (getD h i 0)
+stands-within w q passes {c} {h} {t} s few e i lt =
     let n = s .counted in
     let long : length (take (foundIn t) h) ≡ foundIn t = length-take-le (foundIn t) h (omega (arith, n .hit-room, n .found-met, n .met-cells)) in
     let m = mem-getD (take (foundIn t) h) i 0 (omega arith) in
-    let cell = hits-within w q _ _ _ (sym (s .state)) (getD h i 0) (subst (λ (k : ℕ). List·Memᴰ k (take (foundIn t) h)) (getD-take (foundIn t) h i 0 lt) m) in
+    let found = subst (λ (k : ℕ). List·Memᴰ k (take (foundIn t) h)) (getD-take (foundIn t) h i 0 lt) m in
+    let cell = hits-within w q passes _ _ _ (sym (s .state)) (getD h i 0) found in
     subst (λ (x : ℕ). IsCell x (getD h i 0)) e cell

@@ -18,11 +18,12 @@ use native.Mathlib.Decide.{decLe, decLt}
 use native.Mathlib.Omega.{arith}
 use borrow.Author.Tests.{lt-ltb, le-ltb, le-leb, lt-leb}
 use Rattle.lists.specs.Tests.{filter}
+use Rattle.model.specs.declared.Grant.{Grant}
 use Rattle.geometry.specs.Levels.{levels}
 use Rattle.geometry.specs.Region.{Region, rootRegion}
 use Rattle.pool.specs.Layout.{rootPlace}
 use Rattle.pool.specs.Capacity.{capacityOf}
-use Rattle.adt.specs.Search.{Spot, nowhere, Search, broken, going, firstSpot, meet, enter, search}
+use Rattle.adt.specs.Search.{Spot, nowhere, Search, broken, going, firstSpot, meet, enter, searchBy}
 use Rattle.adt.specs.Links.{Link, brokenBy, searchFrom, searchLinks, isHit, hitsAmong}
 use Rattle.adt.proofs.LinkLaws.{brokenBy-none, brokenBy-high, brokenBy-deep, brokenBy-full, brokenBy-more, Within, unbroken-few, unbroken-first}
 use Rattle.adt.proofs.SearchSpots.{linkAt, linksAt, spotsFrom, searchFrom-spots, pass, passAll, passAll-broken, pass-deep, enter-passes}
@@ -44,14 +45,15 @@ firstSpot-hit : (hits : List ℕ) (k : ℕ) (before here : Spot) → firstSpot (
 firstSpot-hit [] k before here = refl
 firstSpot-hit (h ∷ hits) k before here = refl
 
-abbrev isHitAt : List ℕ → Region → Spot → Bool
-isHitAt w q here = isHit w q (linkAt w here)
+abbrev isHitAt : List ℕ → (Grant → Bool) → Spot → Bool
+isHitAt w passes here = isHit w passes (linkAt w here)
 
-module _ (w : List ℕ) (c : ℕ) (q : Region) where
+module _ (w : List ℕ) (c : ℕ) (q : Region) (passes : Grant → Bool) where
   -- the state after a walk that goes on through all the spots
   abbrev reached : ℕ → List ℕ → Spot → List Spot → Search
   reached met hits first spots =
-      going (met + length (linksAt w spots)) (hits ++ hitsAmong w q (linksAt w spots)) (firstSpot hits first (headOr first (filter (isHitAt w q) spots)))
+      let spot = firstSpot hits first (headOr first (filter (isHitAt w passes) spots)) in
+      going (met + length (linksAt w spots)) (hits ++ hitsAmong w passes (linksAt w spots)) spot
 
   reached-none : (met : ℕ) (hits : List ℕ) (first : Spot) → reached met hits first [] ≡ going met hits first
   unfolding hitsAmong filter
@@ -61,52 +63,54 @@ module _ (w : List ℕ) (c : ℕ) (q : Region) where
 
   -- the link at a spot that no cause of fault 9 stands against
   pass-on : (here : Spot) (met : ℕ) (hits : List ℕ) (first : Spot) → getD w (here .link) 0 ≤ c → here .level ≤ levels → met < c
-      → pass w c q here (going met hits first)
-      ≡ cond (isHitAt w q here) (going (suc met) (hits ++ (getD w (here .link) 0 ∷ [])) (firstSpot hits first here)) (going (suc met) hits first)
+      → pass w c q passes here (going met hits first)
+      ≡ cond (isHitAt w passes here) (going (suc met) (hits ++ (getD w (here .link) 0 ∷ [])) (firstSpot hits first here)) (going (suc met) hits first)
   unfolding pass meet
   pass-on here met hits first low above room =
       rw (le-leb (getD w (here .link) 0) c low, le-leb (here .level) levels above, lt-ltb met c room)
 
-  pass-high : (here : Spot) (met : ℕ) (hits : List ℕ) (first : Spot) → c < getD w (here .link) 0 → pass w c q here (going met hits first) ≡ broken
+  pass-high : (here : Spot) (met : ℕ) (hits : List ℕ) (first : Spot) → c < getD w (here .link) 0 → pass w c q passes here (going met hits first) ≡ broken
   unfolding pass
   pass-high here met hits first high = rw (lt-leb (getD w (here .link) 0) c high)
 
-  pass-full : (here : Spot) (met : ℕ) (hits : List ℕ) (first : Spot) → c ≤ met → pass w c q here (going met hits first) ≡ broken
+  pass-full : (here : Spot) (met : ℕ) (hits : List ℕ) (first : Spot) → c ≤ met → pass w c q passes here (going met hits first) ≡ broken
   unfolding pass meet
   pass-full here met hits first full = rw (le-ltb met c full) (cond-same (leb (getD w (here .link) 0) c && leb (here .level) levels) broken)
 
   -- the walk through a list of spots is as its links say
   abbrev Closed : List Spot → ℕ → List ℕ → Spot → Type 0
   Closed spots met hits first =
-      passAll w c q spots (going met hits first) ≡ cond (brokenBy c met (linksAt w spots)) broken (reached met hits first spots)
+      passAll w c q passes spots (going met hits first) ≡ cond (brokenBy c met (linksAt w spots)) broken (reached met hits first spots)
 
   -- one spot more
   module _ (here : Spot) (spots : List Spot) (met : ℕ) (hits : List ℕ) (first : Spot) where
     shift : suc met + length (linksAt w spots) ≡ met + suc (length (linksAt w spots))
     shift = omega arith
 
-    reached-hit : isHitAt w q here ≡ true
+    reached-hit : isHitAt w passes here ≡ true
         → reached (suc met) (hits ++ (getD w (here .link) 0 ∷ [])) (firstSpot hits first here) spots ≡ reached met hits first (here ∷ spots)
     unfolding hitsAmong filter
     reached-hit e = rw (e, shift, append-assoc, firstSpot-hit)
 
-    reached-miss : isHitAt w q here ≡ false → reached (suc met) hits first spots ≡ reached met hits first (here ∷ spots)
+    reached-miss : isHitAt w passes here ≡ false → reached (suc met) hits first spots ≡ reached met hits first (here ∷ spots)
     unfolding hitsAmong filter
     reached-miss e = rw (e, shift)
 
-    closed-stops : pass w c q here (going met hits first) ≡ broken → brokenBy c met (linksAt w (here ∷ spots)) ≡ true → Closed (here ∷ spots) met hits first
+    closed-stops : pass w c q passes here (going met hits first) ≡ broken → brokenBy c met (linksAt w (here ∷ spots)) ≡ true
+        → Closed (here ∷ spots) met hits first
     unfolding passAll
-    closed-stops p e = rw e (ap (passAll w c q spots) p ∙ passAll-broken w c q spots)
+    closed-stops p e = rw e (ap (passAll w c q passes spots) p ∙ passAll-broken w c q passes spots)
 
     closed-goes : getD w (here .link) 0 ≤ c → here .level ≤ levels → met < c → ((hs : List ℕ) (f : Spot) → Closed spots (suc met) hs f)
         → Closed (here ∷ spots) met hits first
     unfolding passAll
     closed-goes low above room rest =
         rw (brokenBy-more c met (linkAt w here) (linksAt w spots) low above)
-        (ap (passAll w c q spots) (pass-on here met hits first low above room) ∙ go (isHitAt w q here) refl)
+        (ap (passAll w c q passes spots) (pass-on here met hits first low above room) ∙ go (isHitAt w passes here) refl)
       where
-        go : (b : Bool) → isHitAt w q here ≡ b
-            → passAll w c q spots (cond b (going (suc met) (hits ++ (getD w (here .link) 0 ∷ [])) (firstSpot hits first here)) (going (suc met) hits first))
+        go : (b : Bool) → isHitAt w passes here ≡ b
+            → let found = going (suc met) (hits ++ (getD w (here .link) 0 ∷ [])) (firstSpot hits first here) in
+            passAll w c q passes spots (cond b found (going (suc met) hits first))
             ≡ cond (brokenBy c (suc met) (linksAt w spots)) broken (reached met hits first (here ∷ spots))
         go true e = rw (← reached-hit e) (rest (hits ++ (getD w (here .link) 0 ∷ [])) (firstSpot hits first here))
         go false e = rw (← reached-miss e) (rest hits first)
@@ -118,7 +122,8 @@ module _ (w : List ℕ) (c : ℕ) (q : Region) where
         go (no high) above room =
             closed-stops (pass-high here met hits first (omega arith)) (brokenBy-high c met (linkAt w here) (linksAt w spots) (omega arith))
         go (yes low) (no deep) room =
-            closed-stops (pass-deep w c q here (going met hits first) (omega arith)) (brokenBy-deep c met (linkAt w here) (linksAt w spots) (omega arith))
+            closed-stops (pass-deep w c q passes here (going met hits first) (omega arith))
+            (brokenBy-deep c met (linkAt w here) (linksAt w spots) (omega arith))
         go (yes low) (yes above) (no full) =
             closed-stops (pass-full here met hits first (omega arith)) (brokenBy-full c met (linkAt w here) (linksAt w spots) (omega arith))
         go (yes low) (yes above) (yes room) = closed-goes low above room (λ hs f. rest hs f room)
@@ -131,12 +136,12 @@ module _ (w : List ℕ) (c : ℕ) (q : Region) where
   -- from any link on, n levels left below the parent: the first hit hangs where it did, else at the spot of the first link that is a hit
   pub enter-closed : (n l at : ℕ) (g : Region) (met : ℕ) (hits : List ℕ) (first : Spot) → l + n ≡ suc levels → met ≤ c
       → let links = searchFrom w q n l at g in
-      let spot = firstSpot hits first (headOr first (filter (isHitAt w q) (spotsFrom w q n l at g))) in
-      enter w c q n at g (going met hits first)
-      ≡ cond (brokenBy c met links) broken (going (met + length links) (hits ++ hitsAmong w q links) spot)
+      let spot = firstSpot hits first (headOr first (filter (isHitAt w passes) (spotsFrom w q n l at g))) in
+      enter w c q passes n at g (going met hits first)
+      ≡ cond (brokenBy c met links) broken (going (met + length links) (hits ++ hitsAmong w passes links) spot)
   enter-closed n l at g met hits first depth few =
       rw (searchFrom-spots w q n l at g)
-      (enter-passes w c q n l at g (going met hits first) depth ∙ passAll-closed (spotsFrom w q n l at g) met hits first few)
+      (enter-passes w c q passes n l at g (going met hits first) depth ∙ passAll-closed (spotsFrom w q n l at g) met hits first few)
 
 filter-map : {A B : Type 0} (f : A → B) (t : B → Bool) (xs : List A) → filter t (map f xs) ≡ map f (filter (λ x. t (f x)) xs)
 unfolding filter
@@ -153,10 +158,10 @@ unfolding filter
 filter-some t [] y ys e = absurd (nil≢cons e)
 filter-some t (x ∷ xs) y ys e = omega arith
 
-hitsAmong-first : (w : List ℕ) (q : Region) (links : List Link) (f : Link) (fs : List Link) → filter (isHit w q) links ≡ f ∷ fs
-    → getD (hitsAmong w q links) 0 0 ≡ f .to
+hitsAmong-first : (w : List ℕ) (passes : Grant → Bool) (links : List Link) (f : Link) (fs : List Link) → filter (isHit w passes) links ≡ f ∷ fs
+    → getD (hitsAmong w passes links) 0 0 ≡ f .to
 unfolding hitsAmong
-hitsAmong-first w q links f fs kept = rw kept
+hitsAmong-first w passes links f fs kept = rw kept
 
 -- the first hit hangs at the spot `first`: it is that of the first link f that is a hit
 pub record FirstHit (w hits : List ℕ) (first : Spot) (f : Link) : Type 0 where
@@ -166,14 +171,14 @@ pub record FirstHit (w hits : List ℕ) (first : Spot) (f : Link) : Type 0 where
   pub within : Within (capacityOf w) f
   pub some : 1 ≤ capacityOf w
 
-pub record Searched (w : List ℕ) (q : Region) (met : ℕ) (hits : List ℕ) (first : Spot) : Type 0 where
+pub record Searched (w : List ℕ) (q : Region) (passes : Grant → Bool) (met : ℕ) (hits : List ℕ) (first : Spot) : Type 0 where
   pub whole : brokenBy (capacityOf w) 0 (searchLinks w q) ≡ false
   pub count : met ≡ length (searchLinks w q)
-  pub found : hits ≡ hitsAmong w q (searchLinks w q)
-  pub first-hit : (f : Link) (fs : List Link) → filter (isHit w q) (searchLinks w q) ≡ f ∷ fs → FirstHit w hits first f
+  pub found : hits ≡ hitsAmong w passes (searchLinks w q)
+  pub first-hit : (f : Link) (fs : List Link) → filter (isHit w passes) (searchLinks w q) ≡ f ∷ fs → FirstHit w hits first f
 
 -- the whole search
-module _ (w : List ℕ) (q : Region) where
+module _ (w : List ℕ) (q : Region) (passes : Grant → Bool) where
   abbrev searchSpots : List Spot
   searchSpots = spotsFrom w q (suc levels) 0 rootPlace rootRegion
 
@@ -184,22 +189,22 @@ module _ (w : List ℕ) (q : Region) where
   -- the state of a search that goes to its end
   abbrev wholeSearch : Search
   wholeSearch =
-      going (length (searchLinks w q)) (hitsAmong w q (searchLinks w q)) (headOr nowhere (filter (isHitAt w q) searchSpots))
+      going (length (searchLinks w q)) (hitsAmong w passes (searchLinks w q)) (headOr nowhere (filter (isHitAt w passes) searchSpots))
 
-  search-closed : search w q ≡ cond (brokenBy (capacityOf w) 0 (searchLinks w q)) broken wholeSearch
-  unfolding search searchLinks
+  search-closed : searchBy w q passes ≡ cond (brokenBy (capacityOf w) 0 (searchLinks w q)) broken wholeSearch
+  unfolding searchBy searchLinks
   search-closed =
       rw (← zero-add (length (searchFrom w q (suc levels) 0 rootPlace rootRegion)))
-      (enter-closed w (capacityOf w) q (suc levels) 0 rootPlace rootRegion 0 [] nowhere refl (omega arith))
+      (enter-closed w (capacityOf w) q passes (suc levels) 0 rootPlace rootRegion 0 [] nowhere refl (omega arith))
 
-  pub search-broken-iff : (search w q ≡ broken) ↔ (brokenBy (capacityOf w) 0 (searchLinks w q) ≡ true)
+  pub search-broken-iff : (searchBy w q passes ≡ broken) ↔ (brokenBy (capacityOf w) 0 (searchLinks w q) ≡ true)
   search-broken-iff = go (brokenBy (capacityOf w) 0 (searchLinks w q)) search-closed
     where
-      go : (b : Bool) → search w q ≡ cond b broken wholeSearch → (search w q ≡ broken) ↔ (b ≡ true)
+      go : (b : Bool) → searchBy w q passes ≡ cond b broken wholeSearch → (searchBy w q passes ≡ broken) ↔ (b ≡ true)
       go true p = (λ e. refl, λ e. p)
       go false p = (λ e. absurd (let z : _≡_ {A = ℕ} 0 1 = cc in omega arith), λ e. absurd (false≢true e))
 
-  pub search-going : (met : ℕ) (hits : List ℕ) (first : Spot) → search w q ≡ going met hits first → Searched w q met hits first
+  pub search-going : (met : ℕ) (hits : List ℕ) (first : Spot) → searchBy w q passes ≡ going met hits first → Searched w q passes met hits first
   search-going met hits first e = go (brokenBy (capacityOf w) 0 (searchLinks w q)) refl search-closed
     where
       head-hit : (spots : List Spot) (f : Link) (fs : List Link) → first ≡ headOr nowhere spots → linksAt w spots ≡ f ∷ fs
@@ -209,22 +214,22 @@ module _ (w : List ℕ) (q : Region) where
           let same : linkAt w here ≡ f = head-eq-of-cons-eq k in
           (rw s (ap (λ (x : Link). x .level) same), rw s (ap (λ (x : Link). x .to) same))
 
-      go : (b : Bool) → brokenBy (capacityOf w) 0 (searchLinks w q) ≡ b → search w q ≡ cond b broken wholeSearch → Searched w q met hits first
+      go : (b : Bool) → brokenBy (capacityOf w) 0 (searchLinks w q) ≡ b → searchBy w q passes ≡ cond b broken wholeSearch → Searched w q passes met hits first
       go true whole p = absurd (let z : _≡_ {A = ℕ} 0 1 = cc in omega arith)
       go false whole p =
-          let found : hits ≡ hitsAmong w q (searchLinks w q) = cc in
+          let found : hits ≡ hitsAmong w passes (searchLinks w q) = cc in
           record {
             whole = whole;
             count = cc;
             found = found;
             first-hit = λ f fs kept.
-                let spots = filter (isHitAt w q) searchSpots in
-                let hangs = head-hit spots f fs (cc) (sym (filter-map (linkAt w) (isHit w q) searchSpots) ∙ (rw searchLinks-spots at kept)) in
+                let spots = filter (isHitAt w passes) searchSpots in
+                let hangs = head-hit spots f fs (cc) (sym (filter-map (linkAt w) (isHit w passes) searchSpots) ∙ (rw searchLinks-spots at kept)) in
                 record {
                   level = hangs .0;
                   holds = hangs .1;
-                  cell = ap (λ (hs : List ℕ). getD hs 0 0) found ∙ hitsAmong-first w q (searchLinks w q) f fs kept;
-                  within = unbroken-first (capacityOf w) 0 (searchLinks w q) whole (isHit w q) f fs kept;
-                  some = omega (arith, filter-some (isHit w q) (searchLinks w q) f fs kept, unbroken-few (capacityOf w) 0 (searchLinks w q) whole);
+                  cell = ap (λ (hs : List ℕ). getD hs 0 0) found ∙ hitsAmong-first w passes (searchLinks w q) f fs kept;
+                  within = unbroken-first (capacityOf w) 0 (searchLinks w q) whole (isHit w passes) f fs kept;
+                  some = omega (arith, filter-some (isHit w passes) (searchLinks w q) f fs kept, unbroken-few (capacityOf w) 0 (searchLinks w q) whole);
                 };
           }

@@ -2,8 +2,8 @@
 --   linkAt w here, linksAt w spots   the link at a spot, as specs/Links has it, and those at a list of them
 --   spotsFrom w q n l at g   the spots of the links that the search goes through, in its order, as `searchFrom` lists the links
 --   searchFrom-spots         `searchFrom` lists the links at these spots
---   pass w c q here s        the walk s goes through the link at a spot: broken above C, below the last level, or once C cells were met
---   passAll w c q spots s    through all of them
+--   pass w c q passes here s        the walk s goes through the link at a spot: broken above C, below the last level, or once C cells were met
+--   passAll w c q passes spots s    through all of them
 --   enter-passes             the walk that stops is just that
 -- Assumes nothing.
 use Prim.Native.Nat.{ℕ, zero, suc, _+_, _-_, _<_, _≤_}
@@ -14,6 +14,7 @@ use lib.Dec.{leb, eqb}
 use lib.ListN.{getD}
 use native.Mathlib.Omega.{arith}
 use borrow.Author.Tests.{le-leb, lt-leb}
+use Rattle.model.specs.declared.Grant.{Grant}
 use Rattle.geometry.specs.declared.Side.the-variants.{Left, Right}
 use Rattle.geometry.specs.Axis.{axisOf}
 use Rattle.geometry.specs.Levels.{levels}
@@ -52,11 +53,11 @@ module _ (w : List ℕ) where
       rw (searchFrom-spots q n (suc l) (linkPlace k Left) (half Left g a), searchFrom-spots q n (suc l) (linkPlace k Right) (half Right g a))
       (simp (map-cond, map-append))
 
-module _ (w : List ℕ) (c : ℕ) (q : Region) where
+module _ (w : List ℕ) (c : ℕ) (q : Region) (passes : Grant → Bool) where
   unfoldable pub pass : Spot → Search → Search
   pass here s =
       let k = getD w (here .link) 0 in
-      unlessBroken s (cond (leb k c && leb (here .level) levels) (meet w c q here k s) broken)
+      unlessBroken s (cond (leb k c && leb (here .level) levels) (meet w c q passes here k s) broken)
 
   unfoldable pub passAll : List Spot → Search → Search
   passAll [] s = s
@@ -84,7 +85,7 @@ module _ (w : List ℕ) (c : ℕ) (q : Region) where
 
   -- the link at a spot that is not below the last level
   pass-above : (here : Spot) (s : Search) → here .level ≤ levels
-      → pass here s ≡ unlessBroken s (cond (leb (getD w (here .link) 0) c) (meet w c q here (getD w (here .link) 0) s) broken)
+      → pass here s ≡ unlessBroken s (cond (leb (getD w (here .link) 0) c) (meet w c q passes here (getD w (here .link) 0) s) broken)
   unfolding pass
   pass-above here s above = rw (le-leb (here .level) levels above, and-true)
 
@@ -96,7 +97,7 @@ module _ (w : List ℕ) (c : ℕ) (q : Region) where
       here .level ≤ levels
       → ((t : Search) → child (linkPlace k Left) (half Left g a) t ≡ passAll left t)
       → ((t : Search) → child (linkPlace k Right) (half Right g a) t ≡ passAll right t)
-      → cond (leb k c) (visitBy w c q child here k g s) broken ≡ passAll (here ∷ left ++ right) s
+      → cond (leb k c) (visitBy w c q passes child here k g s) broken ≡ passAll (here ∷ left ++ right) s
   unfolding visitBy passAll
   visit-passes child here g met hits first left right above goLeft goRight =
       go (leb (getD w (here .link) 0) c)
@@ -104,13 +105,13 @@ module _ (w : List ℕ) (c : ℕ) (q : Region) where
     where
       go : (b : Bool)
           → let k = getD w (here .link) 0 in
-          let s = meet w c q here k (going met hits first) in
-          cond b (visitBy w c q child here k g (going met hits first)) broken ≡ passAll right (passAll left (cond b s broken))
+          let s = meet w c q passes here k (going met hits first) in
+          cond b (visitBy w c q passes child here k g (going met hits first)) broken ≡ passAll right (passAll left (cond b s broken))
       go true = goRight _ ∙ rw goLeft
       go false = sym (rw (passAll-broken left, passAll-broken right))
 
   -- n levels are left below the parent, so the link leads to the level l, counted from 0 at the root
-  pub enter-passes : (n l at : ℕ) (g : Region) (s : Search) → l + n ≡ suc levels → enter w c q n at g s ≡ passAll (spotsFrom w q n l at g) s
+  pub enter-passes : (n l at : ℕ) (g : Region) (s : Search) → l + n ≡ suc levels → enter w c q passes n at g s ≡ passAll (spotsFrom w q n l at g) s
   unfolding enter spotsFrom passAll
   enter-passes zero l at g broken depth = sym (passAll-broken (spotsFrom w q zero l at g))
   enter-passes zero l at g (going met hits first) depth =
@@ -130,5 +131,5 @@ module _ (w : List ℕ) (c : ℕ) (q : Region) where
         passAll-cond,
         passAll-cond,
         level,
-        visit-passes (enter w c q n) here g met hits first left right (omega arith) (λ t. goLeft t below) (λ t. goRight t below),
+        visit-passes (enter w c q passes n) here g met hits first left right (omega arith) (λ t. goLeft t below) (λ t. goRight t below),
       )

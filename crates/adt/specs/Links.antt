@@ -8,8 +8,8 @@
 --   leftElseRight w k          the link that the removal walk goes through from the cell k; 0 at a terminal cell
 --   removalLinks w k l         the removal walk from the cell k at level l, which is met before them
 --   freeLinks w                the links of the free list that grant reads; their cells are not counted and have no level
---   isHit w q link             the link leads to a cell whose point lies in the range
---   hitsAmong w q links        the cells of the search's links that are hits, in order
+--   isHit w passes link        the link leads to a cell whose grant passes the test
+--   hitsAmong w passes links   the cells of the search's links that are hits, in order
 -- Every list of links is finite by the levels: n counts those left. Assumes nothing: these are definitions.
 use Prim.Native.Nat.{ℕ, zero, suc, _+_, _-_}
 use mathlib.Core.Bool.{Bool, cond, _||_}
@@ -17,13 +17,14 @@ use mathlib.Core.List.{List, [], _∷_, _++_, map}
 use lib.Dec.{ltb, eqb}
 use lib.ListN.{length, getD}
 use Rattle.lists.specs.Tests.{filter, any}
+use Rattle.model.specs.declared.Grant.{Grant}
 use Rattle.geometry.specs.declared.Side.the-variants.{Left, Right}
 use Rattle.geometry.specs.Axis.{axisOf}
 use Rattle.geometry.specs.Levels.{levels}
 use Rattle.geometry.specs.Region.{Region, rootRegion, sideOf, half, meets}
-use Rattle.geometry.specs.Point.{inside}
 use Rattle.pool.specs.Layout.{rootPlace, freePlace}
-use Rattle.adt.specs.Node.{linkPlace, pointAt}
+use Rattle.pool.specs.Cell.{grantAt}
+use Rattle.adt.specs.Node.{linkPlace}
 
 pub record Link : Type 0 where
   pub level : ℕ
@@ -85,8 +86,8 @@ freeLinks w =
     let head = getD w freePlace 0 in
     head ∷ cond (eqb head 0) [] (getD w (linkPlace head Left) 0 ∷ [])
 
-abbrev pub isHit : List ℕ → Region → Link → Bool
-isHit w q link = inside q (pointAt w (link .to))
+abbrev pub isHit : List ℕ → (Grant → Bool) → Link → Bool
+isHit w passes link = passes (grantAt w (link .to))
 
-unfoldable pub hitsAmong : List ℕ → Region → List Link → List ℕ
-hitsAmong w q links = map (λ link. link .to) (filter (isHit w q) links)
+unfoldable pub hitsAmong : List ℕ → (Grant → Bool) → List Link → List ℕ
+hitsAmong w passes links = map (λ link. link .to) (filter (isHit w passes) links)

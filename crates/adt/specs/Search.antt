@@ -1,25 +1,29 @@
 -- The search: source 001's three steps on any words, as a walk that stops at its first cause of fault 9
 -- (document 01, "The tree" and "The walks of a call"). The contracts cite it; Links says the same fault as document 01 does.
 --   Search          broken, or how far it got: cells met, the hits' cells in order, where the first hit hangs
---   meet            the cell is met and counted, and is a hit where its point lies in the range
+--   meet            the cell is met and counted, and is a hit where its grant passes the test
 --   visitBy enter   the cell is met; then the left subtree is entered, then the right
 --   enter n at g    the link at the place `at` is gone through, if it leads to a cell and that cell's region g meets the range;
 --                   n is the number of levels below the parent, so the root is entered with one more than there are levels
---   search w q      the whole walk, from the root
+--   searchBy w q passes   the whole walk, from the root: it goes by the range q, and its hits are the cells met whose grants pass the test
+--   inRange q g           the grant's point lies in the range
+--   search w q            the walk whose hits are the cells in its range
 -- Assumes nothing: these are definitions.
 use Prim.Native.Nat.{ℕ, zero, suc, _-_}
-use mathlib.Core.Bool.{cond}
+use mathlib.Core.Bool.{Bool, cond}
 use mathlib.Core.List.{List, [], _∷_, _++_}
 use lib.Dec.{leb, ltb, eqb}
 use lib.ListN.{getD}
+use Rattle.model.specs.declared.Grant.{Grant}
 use Rattle.geometry.specs.declared.Side.the-variants.{Left, Right}
 use Rattle.geometry.specs.Axis.{axisOf}
 use Rattle.geometry.specs.Levels.{levels}
 use Rattle.geometry.specs.Region.{Region, rootRegion, half, meets}
-use Rattle.geometry.specs.Point.{inside}
+use Rattle.geometry.specs.Point.{pointOf, inside}
 use Rattle.pool.specs.Layout.{rootPlace}
 use Rattle.pool.specs.Capacity.{capacityOf}
-use Rattle.adt.specs.Node.{linkPlace, pointAt}
+use Rattle.pool.specs.Cell.{grantAt}
+use Rattle.adt.specs.Node.{linkPlace}
 
 -- a cell on a walk: its level, and the place of the link it hangs on
 pub record Spot : Type 0 where
@@ -43,13 +47,13 @@ abbrev pub unlessBroken : Search → Search → Search
 unlessBroken broken s = broken
 unlessBroken (going met hits first) s = s
 
--- the walk in the words w of a pool of c cells, for the range q
-module _ (w : List ℕ) (c : ℕ) (q : Region) where
+-- the walk in the words w of a pool of c cells, for the range q, with the test of a hit
+module _ (w : List ℕ) (c : ℕ) (q : Region) (passes : Grant → Bool) where
   unfoldable pub meet : Spot → ℕ → Search → Search
   meet here k broken = broken
   meet here k (going met hits first) =
       cond (ltb met c)
-      (cond (inside q (pointAt w k))
+      (cond (passes (grantAt w k))
       (going (suc met) (hits ++ (k ∷ [])) (firstSpot hits first here))
       (going (suc met) hits first))
       broken
@@ -69,5 +73,11 @@ module _ (w : List ℕ) (c : ℕ) (q : Region) where
       (cond (leb k c) (visitBy (enter n) (record { level = levels - n; link = at }) k g s) broken)
       s))
 
-unfoldable pub search : List ℕ → Region → Search
-search w q = enter w (capacityOf w) q (suc levels) rootPlace rootRegion (going 0 [] nowhere)
+unfoldable pub searchBy : List ℕ → Region → (Grant → Bool) → Search
+searchBy w q passes = enter w (capacityOf w) q passes (suc levels) rootPlace rootRegion (going 0 [] nowhere)
+
+abbrev pub inRange : Region → Grant → Bool
+inRange q g = inside q (pointOf g)
+
+abbrev pub search : List ℕ → Region → Search
+search w q = searchBy w q (inRange q)

@@ -19,6 +19,7 @@ use mathlib.Core.List.{List}
 use lib.Dec.{leb}
 use lib.ListN.{length, take, getD, replicate}
 use Rattle.model.specs.Limits.{maxGrants}
+use Rattle.model.specs.declared.Grant.{Grant}
 use Rattle.geometry.specs.declared.Side.{Side}
 use Rattle.geometry.specs.Axis.{axisOf}
 use Rattle.geometry.specs.Levels.{levels}
@@ -85,11 +86,12 @@ module _ (w : List ℕ) (c : ℕ) (q : Region) (hits counters : List ℕ) where
     pub shape : Shape g
     pub meeting : meets g q ≡ true
 
+module _ (w : List ℕ) (c : ℕ) (q : Region) (passes : Grant → Bool) (hits counters : List ℕ) where
   abbrev pub tested : (k level link : ℕ) → Search
-  tested k level link = meet w c q (record { level = level; link = link }) k (searchIn true hits counters)
+  tested k level link = meet w c q passes (record { level = level; link = link }) k (searchIn true hits counters)
 
   abbrev pub visited : (k n link : ℕ) → Region → Search
-  visited k n link g = visitBy w c q (enter w c q n) (record { level = levels - n; link = link }) k g (searchIn true hits counters)
+  visited k n link g = visitBy w c q passes (enter w c q passes n) (record { level = levels - n; link = link }) k g (searchIn true hits counters)
 
   abbrev pub entered : (n link : ℕ) → Side → Region → Search
-  entered n link s g = enter w c q n link (regionEntered n s g) (searchIn true hits counters)
+  entered n link s g = enter w c q passes n link (regionEntered n s g) (searchIn true hits counters)

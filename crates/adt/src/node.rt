@@ -2,10 +2,12 @@
 ghost use mathlib.Core.Path.{_≡_};
 ghost use Prim.Native.Nat.{_<_, _≤_};
 ghost use Rattle.model.specs.Limits.{maxGrants};
-ghost use Rattle.geometry.specs.Point.{pointOf, inside};
+ghost use Rattle.geometry.specs.Point.{pointOf};
 ghost use Rattle.geometry.specs.SearchRange.{OneSided};
 ghost use Rattle.pool.specs.Capacity.{poolLength, InPool};
-ghost use Rattle.adt.specs.Node.{linkPlace, pointAt};
+ghost use Rattle.pool.specs.Cell.{grantAt};
+ghost use Rattle.adt.specs.Node.{linkPlace};
+ghost use Rattle.adt.specs.Search.{inRange};
 use geometry::Side;
 use geometry::axis::DOOR_FROM;
 use geometry::axis::DOOR_TO;
@@ -41,7 +43,7 @@ pub fn point_of(g: Grant) -> Point
 // Whether the point of the grant in a cell lies in a search range. Only the comparisons that can fail are made.
 pub fn is_hit(pool: &[u16], cell: usize, range: &Region) -> bool
     requires { ⌜ InPool (now pool) cell × OneSided (now range) ⌝ }
-    ensures { λ r. ⌜ r ≡ inside (now (range .entry)) (pointAt (now (pool .entry)) cell) ⌝ }
+    ensures { λ r. ⌜ r ≡ inRange (now (range .entry)) (grantAt (now (pool .entry)) cell) ⌝ }
 {
     let number = field(pool, cell, Field::Number);
     if number < range[NUMBER][0] {

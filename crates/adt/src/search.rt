@@ -1,7 +1,7 @@
 // The search: source 001's three steps. `visit` tests a cell and enters its two subtrees; `enter` tests a subtree's region against
 // the range and visits its cell. The levels remaining fall. A search that meets a cause of fault 9 answers false at once.
 ghost use Rattle.geometry.specs.SearchRange.{OneSided};
-ghost use Rattle.adt.specs.Search.{search};
+ghost use Rattle.adt.specs.Search.{inRange, search};
 ghost use Rattle.adt.specs.SearchMemory.{Fresh, Encodes, Testing, Visiting, Entering, tested, visited, entered};
 use crate::node::is_hit;
 use crate::node::link_place;
@@ -45,7 +45,7 @@ fn test(
 ) -> bool
     requires { ⌜ Testing (now pool) cells (now range) (now hits) (now counters) k ⌝ }
     ensures { λ r. ⌜ Encodes cells r (now (hits .exit)) (now (counters .exit))
-        (tested (now (pool .entry)) cells (now (range .entry)) (now (hits .entry)) (now (counters .entry)) k level link) ⌝ }
+        (tested (now (pool .entry)) cells (now (range .entry)) (inRange (now (range .entry))) (now (hits .entry)) (now (counters .entry)) k level link) ⌝ }
 {
     let met = counters[MET];
     let found = counters[FOUND];
@@ -81,7 +81,8 @@ fn visit(
 ) -> bool
     requires { ⌜ Visiting (now pool) cells (now range) (now hits) (now counters) k below region ⌝ }
     ensures { λ r. ⌜ Encodes cells r (now (hits .exit)) (now (counters .exit))
-        (visited (now (pool .entry)) cells (now (range .entry)) (now (hits .entry)) (now (counters .entry)) k below link region) ⌝ }
+        (visited (now (pool .entry)) cells (now (range .entry)) (inRange (now (range .entry)))
+        (now (hits .entry)) (now (counters .entry)) k below link region) ⌝ }
 {
     let level = LEVELS - below;
     if !test(pool, cells, k, level, link, range, hits, counters) {
@@ -135,7 +136,8 @@ fn enter(
 ) -> bool
     requires { ⌜ Entering (now pool) cells (now range) (now hits) (now counters) below link region ⌝ }
     ensures { λ r. ⌜ Encodes cells r (now (hits .exit)) (now (counters .exit))
-        (entered (now (pool .entry)) cells (now (range .entry)) (now (hits .entry)) (now (counters .entry)) below link side region) ⌝ }
+        (entered (now (pool .entry)) cells (now (range .entry)) (inRange (now (range .entry)))
+        (now (hits .entry)) (now (counters .entry)) below link side region) ⌝ }
 {
     if below == 0 {
         return false;

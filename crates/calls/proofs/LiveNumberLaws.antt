@@ -16,11 +16,11 @@ use Rattle.geometry.proofs.SearchRangeLaws.{number-hits}
 use Rattle.adt.proofs.LiveLaws.{grantsOf, numbersOf}
 use Rattle.calls.specs.Walks.{numberSearch, hitsOf}
 use Rattle.calls.specs.Causes.{numberLive}
-use Rattle.calls.proofs.Represents.{grantNumber, Represents, live-represents, Hits, represents-hits}
+use Rattle.calls.proofs.Represents.{grantNumber, Represents, live-represents, Hits, range-hits}
 
 module _ {w : List ℕ} {b : Book} (h : Represents w b) (n : ℕ) where
   pub number-found : Hits w (b .live) (λ g. eqb (g .number) n) (numberSearch w n)
-  number-found = represents-hits h (rangeOfNumber n) (λ g. eqb (g .number) n) (λ g fits. number-hits g fits n)
+  number-found = range-hits h (rangeOfNumber n) (λ g. eqb (g .number) n) (λ g fits. number-hits g fits n)
 
   pub numberLive-isLive : numberLive (hitsOf (numberSearch w n)) ≡ isLive b n
   numberLive-isLive = ap (λ (k : ℕ). not (eqb k 0)) (number-found .count) ∙ sym (any-filter (λ g. eqb (g .number) n) (b .live))

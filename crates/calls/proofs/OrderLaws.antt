@@ -47,7 +47,7 @@ pub grantOrder-links : (w : List ℕ) (r : Request)
 unfolding grantOrder firstFault
 grantOrder-links w r =
     order-same (grantOrder w r) (λ h k. firstFault-behind (BadPool if wrongPool w ∷ requestCauses r) (walked h) (walked k) refl) (grantBroken-links w r)
-    (λ whole. hitsOf-links w (rangeOfNumber (r .number)) (grantBroken-search w r whole))
+    (λ whole. hitsOf-links w (rangeOfNumber (r .number)) _ (grantBroken-search w r whole))
   where
     -- the end of the line, where a walk is broken
     walked : List ℕ → List Cause
@@ -59,17 +59,17 @@ pub revokeOrder-links : (w : List ℕ) (n : ℕ)
 unfolding revokeOrder firstFault
 revokeOrder-links w n =
     order-same (revokeOrder w n) (λ h k. refl) (revokeBroken-links w n)
-    (λ whole. hitsOf-links w (rangeOfNumber n) (revokeBroken-search w n whole))
+    (λ whole. hitsOf-links w (rangeOfNumber n) _ (revokeBroken-search w n whole))
 
 pub listOrder-links : (w : List ℕ) (q : Box) (lent : List ℕ)
     → firstFault (listOrder w q lent (isBroken (boxSearch w q)) (hitsOf (boxSearch w q)))
     ≡ firstFault (listOrder w q lent (searchMeets9 w (rangeOfBox q)) (searchHits w (rangeOfBox q)))
 unfolding listOrder firstFault
-listOrder-links w q lent = order-same (listOrder w q lent) (λ h k. refl) (isBroken-links w (rangeOfBox q)) (hitsOf-links w (rangeOfBox q))
+listOrder-links w q lent = order-same (listOrder w q lent) (λ h k. refl) (isBroken-links w (rangeOfBox q) _) (hitsOf-links w (rangeOfBox q) _)
 
 pub writeOrder-links : (w : List ℕ) (doors : Interval) (lent : List ℕ)
     → firstFault (writeOrder w doors lent (isBroken (doorSearch w doors)) (hitsOf (doorSearch w doors)))
     ≡ firstFault (writeOrder w doors lent (searchMeets9 w (rangeOfDoors doors)) (searchHits w (rangeOfDoors doors)))
 unfolding writeOrder firstFault
 writeOrder-links w doors lent =
-    order-same (writeOrder w doors lent) (λ h k. refl) (isBroken-links w (rangeOfDoors doors)) (hitsOf-links w (rangeOfDoors doors))
+    order-same (writeOrder w doors lent) (λ h k. refl) (isBroken-links w (rangeOfDoors doors) _) (hitsOf-links w (rangeOfDoors doors) _)

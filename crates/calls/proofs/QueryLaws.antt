@@ -37,7 +37,7 @@ use Rattle.calls.specs.Walks.{boxSearch, noWalk, quarterSearch, fullSear
 use Rattle.calls.specs.Order.{listOrder, lookOrder}
 use Rattle.calls.specs.Calls.{listCall, decideCall, countCall}
 use Rattle.calls.proofs.Represents.{grantNumber, Represents, represents-pool, represents-capacity, represents-fits, represents-live}
-use Rattle.calls.proofs.Represents.{Hits, represents-hits}
+use Rattle.calls.proofs.Represents.{Hits, range-hits}
 
 -- the order lines where the pool is right and no walk is broken; of a box that is refused nothing else matters
 list-order : (w : List ℕ) (q : Box) (lent : List ℕ) {broken : Bool} (hits numbers : List ℕ) → wrongPool w ≡ false
@@ -68,7 +68,7 @@ hits-numbers {w} {s = s} h = sym (map-sortBy grantNumber (grantsHit w s)) ∙ ap
 
 module _ {w : List ℕ} {b : Book} (h : Represents w b) where
   box-found : (q : Box) → q .«quarter_from» < q .«quarter_to» → Hits w (b .live) (λ g. overlaps (g .bounds) q) (boxSearch w q)
-  box-found q some = represents-hits h (rangeOfBox q) (λ g. overlaps (g .bounds) q) (λ g fits. box-hits g fits q some)
+  box-found q some = range-hits h (rangeOfBox q) (λ g. overlaps (g .bounds) q) (λ g fits. box-hits g fits q some)
 
   none-found : (q : Box) → coverable (q .«quarter_from») ≡ false → Hits w (b .live) (λ g. overlaps (g .bounds) q) noWalk
   unfolding sortBy
@@ -106,7 +106,7 @@ module _ {w : List ℕ} {b : Book} (h : Represents w b) where
   pub count-refines : Agrees Represents (countCall w) (bookCount b)
   unfolding countCall bookCount
   count-refines =
-      let found = represents-hits h rangeOfAll (λ g. true) (λ g fits. all-hits g fits) in
+      let found = range-hits h rangeOfAll (λ g. true) (λ g fits. all-hits g fits) in
       let live : length (hitsOf (fullSearch w)) ≡ length (b .live) = found .count ∙ ap length (filter-all (λ g. true) (b .live) (λ g m. refl)) in
       accepting-agrees Represents _ w [] _ _ (look-order w (represents-pool h) (found .whole))
       (record { same = rw (live, represents-capacity h); related = h })

@@ -9,13 +9,13 @@
 --   live-distinct, represents-rises          their numbers differ, and ascend
 --   represents-count       live grants and free cells are C together
 --   cells-distinct         no cell is in the tree twice
---   represents-finds       what every search finds in the tree
+--   represents-finds, range-finds   what a search finds in the tree, by a test that only what is in its range passes, and by its range
 --   Hits w gs t s          the search s is whole, and hits those of the grants gs that pass t
---   represents-hits        so does every search whose range says of each grant what t says
+--   represents-hits, range-hits     so does every search whose test, or whose range, says of each grant what t says
 -- Assumes nothing.
 use Prim.Native.Nat.{ℕ, _+_, _≤_}
 use mathlib.Core.Path.{_≡_, refl, sym, ap, subst, _∙_}
-use mathlib.Core.Bool.{Bool, false}
+use mathlib.Core.Bool.{Bool, true, false}
 use mathlib.Core.List.{List, map, List·Memᴰ, Memᴰ·of-map}
 use native.Mathlib.Omega.{arith}
 use lib.ListN.{length, length-map}
@@ -34,11 +34,10 @@ use Rattle.model.specs.Arguments.{requestCauses}
 use Rattle.model.specs.Values.{GrantFits}
 use Rattle.model.specs.Book.{Book}
 use Rattle.geometry.specs.Region.{Region}
-use Rattle.geometry.specs.Point.{inside, pointOf}
 use Rattle.pool.specs.Capacity.{capacityOf, wrongPool}
 use Rattle.pool.specs.Cell.{grantAt}
 use Rattle.pool.proofs.CapacityLaws.{wrongPool-iff}
-use Rattle.adt.specs.Search.{Search, search}
+use Rattle.adt.specs.Search.{Search, searchBy, inRange, search}
 use Rattle.adt.specs.Reach.{Carries}
 use Rattle.adt.proofs.Spells.{Tree, cellsOf}
 use Rattle.adt.proofs.TreeLaws.{cells-size}
@@ -116,28 +115,39 @@ module _ {w : List ℕ} {b : Book} (h : Represents w b) where
   pub cells-distinct : Distinct (cellsOf (h .tree))
   cells-distinct = distinct-left (cellsOf (h .tree)) (h .free) (linked-distinct (h .linked))
 
-  pub represents-finds : (q : Region) → Finds w q (h .tree) (search w q)
-  represents-finds q = search-finds q (h .linked .spells) cells-distinct represents-capacity
+  -- the search finds what passes, where nothing passes that lies outside the range
+  module _ (q : Region) (passes : Grant → Bool) (narrows : (g : Grant) → GrantFits g → passes g ≡ true → inRange q g ≡ true) where
+    pub represents-finds : Finds w passes (h .tree) (searchBy w q passes)
+    represents-finds =
+        search-finds q passes (h .linked .spells) cells-distinct represents-capacity (λ k m. narrows (grantAt w k) (h .carried k m .fits))
 
-  module _ (q : Region) (t : Grant → Bool) (says : (g : Grant) → GrantFits g → inside q (pointOf g) ≡ t g) where
-    hit-grants : map (grantAt w) (hitsIn w q (h .tree)) ≡ filter t (grantsOf w (h .tree))
+  pub range-finds : (q : Region) → Finds w (inRange q) (h .tree) (search w q)
+  range-finds q = represents-finds q (inRange q) (λ g fits e. e)
+
+  -- and the live grants that pass are those of t
+  module _ (q : Region) (passes t : Grant → Bool) (narrows : (g : Grant) → GrantFits g → passes g ≡ true → inRange q g ≡ true)
+      (says : (g : Grant) → GrantFits g → passes g ≡ t g) where
+    hit-grants : map (grantAt w) (hitsIn w passes (h .tree)) ≡ filter t (grantsOf w (h .tree))
     hit-grants =
-        sym (filter-map (λ g. inside q (pointOf g)) (grantAt w) (cellsOf (h .tree)))
-        ∙ filter-same (λ g. inside q (pointOf g)) t (grantsOf w (h .tree)) (λ g m. says g (represents-fits g m))
+        sym (filter-map passes (grantAt w) (cellsOf (h .tree)))
+        ∙ filter-same passes t (grantsOf w (h .tree)) (λ g m. says g (represents-fits g m))
 
     hit-live : sortBy grantNumber (filter t (grantsOf w (h .tree))) ≡ filter t (b .live)
     hit-live = sym (filter-sortBy grantNumber t (grantsOf w (h .tree))) ∙ ap (filter t) (h .live)
 
-    pub represents-hits : Hits w (b .live) t (search w q)
+    pub represents-hits : Hits w (b .live) t (searchBy w q passes)
     represents-hits =
-        rw (represents-finds q .found)
+        rw (represents-finds q passes narrows .found)
         (record {
           whole = refl;
           grants = ap (sortBy grantNumber) hit-grants ∙ hit-live;
           distinct = rw hit-grants (distinct-keys-filter grantNumber t (grantsOf w (h .tree)) (h .distinct));
           count =
-              sym (length-map (hitsIn w q (h .tree)) (grantAt w))
+              sym (length-map (hitsIn w passes (h .tree)) (grantAt w))
               ∙ ap length hit-grants
               ∙ sym (length-sortBy grantNumber (filter t (grantsOf w (h .tree))))
               ∙ ap length hit-live;
         })
+
+  pub range-hits : (q : Region) (t : Grant → Bool) → ((g : Grant) → GrantFits g → inRange q g ≡ t g) → Hits w (b .live) t (search w q)
+  range-hits q t says = represents-hits q (inRange q) t (λ g fits e. e) says

@@ -25,13 +25,11 @@ use Rattle.model.proofs.RefusalLaws.{causes-absent}
 use Rattle.model.proofs.Simulation.{Agrees, refusing-agrees}
 use Rattle.geometry.specs.Levels.{levels}
 use Rattle.geometry.specs.Region.{Region}
-use Rattle.geometry.specs.Point.{inside}
 use Rattle.geometry.specs.SearchRange.{rangeOfNumber}
 use Rattle.geometry.proofs.SearchRangeLaws.{number-hits}
 use Rattle.pool.specs.Layout.{rootPlace}
 use Rattle.pool.specs.Cell.{grantAt}
-use Rattle.adt.specs.Node.{pointAt}
-use Rattle.adt.specs.Search.{Spot, Search}
+use Rattle.adt.specs.Search.{Spot, Search, inRange}
 use Rattle.adt.specs.Remove.{terminal, removed}
 use Rattle.adt.proofs.Spells.{Tree, cellsOf}
 use Rattle.adt.proofs.PartLaws.{HangsAt}
@@ -44,7 +42,7 @@ use Rattle.calls.specs.Walks.{numberSearch, hitsOf, firstHit, firstSpotO
 use Rattle.calls.specs.Causes.{numberLive, removalBroken, revokeBroken}
 use Rattle.calls.specs.Order.{revokeOrder}
 use Rattle.calls.specs.Calls.{revokeCall, revokedWords}
-use Rattle.calls.proofs.Represents.{Carried, Represents, represents-pool, represents-finds}
+use Rattle.calls.proofs.Represents.{Carried, Represents, represents-pool, range-finds}
 use Rattle.calls.proofs.LiveNumberLaws.{number-found, numberLive-isLive}
 
 -- the words v without the cell k
@@ -84,18 +82,18 @@ pub record Removal {w : List ℕ} {b : Book} (h : Represents w b) (n : ℕ) : Ty
 
 module _ {w : List ℕ} {b : Book} (h : Represents w b) (n : ℕ) where
   pub first-found : isLive b n ≡ true → FirstFound w n (h .tree) (numberSearch w n)
-  first-found live = go (hitsIn w q (h .tree)) refl (rw (finds .found) at (numberLive-isLive h n ∙ live))
+  first-found live = go (hitsIn w (inRange q) (h .tree)) refl (rw (finds .found) at (numberLive-isLive h n ∙ live))
     where
       q : Region
       q = rangeOfNumber n
 
-      finds : Finds w q (h .tree) (numberSearch w n)
-      finds = represents-finds h q
+      finds : Finds w (inRange q) (h .tree) (numberSearch w n)
+      finds = range-finds h q
 
-      go : (ks : List ℕ) → hitsIn w q (h .tree) ≡ ks → numberLive ks ≡ true → FirstFound w n (h .tree) (numberSearch w n)
+      go : (ks : List ℕ) → hitsIn w (inRange q) (h .tree) ≡ ks → numberLive ks ≡ true → FirstFound w n (h .tree) (numberSearch w n)
       go [] e some = absurd (false≢true some)
       go (k ∷ ks) e some =
-          let hit = filter-mem (λ j. inside q (pointAt w j)) (cellsOf (h .tree)) k (rw e (List·Memᴰ·head refl)) in
+          let hit = filter-mem (λ j. inRange q (grantAt w j)) (cellsOf (h .tree)) k (rw e (List·Memᴰ·head refl)) in
           record {
             cell = k;
             spot = finds .first;

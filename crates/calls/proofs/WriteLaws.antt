@@ -38,7 +38,7 @@ use Rattle.calls.specs.Causes.{lengthNeeded}
 use Rattle.calls.specs.Order.{writeOrder}
 use Rattle.calls.specs.FileCalls.{writeCall}
 use Rattle.calls.proofs.Represents.{grantNumber, Carried, Represents, represents-pool, represents-cell, represents-live, represents-rises}
-use Rattle.calls.proofs.Represents.{represents-count, Hits, represents-hits}
+use Rattle.calls.proofs.Represents.{represents-count, Hits, range-hits}
 
 -- no cause answers where the pool is right, the doors are in order, no walk is broken and the lent bytes are enough
 write-order : (w : List ℕ) (doors : Interval) (lent : List ℕ) {broken : Bool} (hits : List ℕ) → wrongPool w ≡ false → reversedDoors doors ≡ false
@@ -53,7 +53,7 @@ module _ {w : List ℕ} {b : Book} (h : Represents w b) (doors : Interval) where
   file = fileOf doors (filter (touches doors) (b .live))
 
   pub touching-found : Hits w (b .live) (touches doors) (doorSearch w doors)
-  touching-found = represents-hits h (rangeOfDoors doors) (touches doors) (λ g fits. doors-hits g fits doors)
+  touching-found = range-hits h (rangeOfDoors doors) (touches doors) (λ g fits. doors-hits g fits doors)
 
   pub length-needed : lengthNeeded (hitsOf (doorSearch w doors)) ≡ length file
   length-needed = ap (λ (n : ℕ). blockBytes * blocksFor n) (touching-found .count) ∙ sym (length-fileOf doors (filter (touches doors) (b .live)))

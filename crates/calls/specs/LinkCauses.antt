@@ -1,6 +1,7 @@
 -- Fault 9 of each call as document 01 says it, from the links that its walks go through (adt/specs/Links), and the hits among them.
 -- Demand 1 cites these; the calls cite the walks that stop. Nothing here is taken from those: `numberLive` only says that there are hits.
---   searchMeets9 w q, searchHits w q   of a search for the range q
+--   searchMeets9 w q                   of a search for the range q
+--   hitsBy w q passes, searchHits w q  its hits: the cells met whose grants pass a test; those in the range
 --   pointMeets9 w staff door quarter   of decide: nothing is walked at a quarter that no grant can cover (document 02, card 2)
 --   freeMeets9 w                       the free head or its cell's left link, as grant reads them, is above C
 --   grantMeets9 w r                    grant: when the number isn't found, also the way down, the free head and its cell's left link
@@ -11,6 +12,7 @@ use mathlib.Core.Bool.{Bool, false, not, _&&_, _||_}
 use mathlib.Core.List.{List, [], _∷_}
 use lib.Dec.{ltb}
 use Rattle.lists.specs.Tests.{filter, any}
+use Rattle.model.specs.declared.Grant.{Grant}
 use Rattle.model.specs.Quarters.{coverable}
 use Rattle.model.specs.Box.{pointBox}
 use Rattle.model.specs.Call.{Request, requested}
@@ -18,14 +20,18 @@ use Rattle.geometry.specs.Region.{Region}
 use Rattle.geometry.specs.Point.{pointOf}
 use Rattle.geometry.specs.SearchRange.{rangeOfBox, rangeOfNumber}
 use Rattle.pool.specs.Capacity.{capacityOf}
+use Rattle.adt.specs.Search.{inRange}
 use Rattle.adt.specs.Links.{Link, brokenBy, searchLinks, insertionLinks, removalLinks, freeLinks, isHit, hitsAmong}
 use Rattle.calls.specs.Causes.{numberLive}
 
 unfoldable pub searchMeets9 : List ℕ → Region → Bool
 searchMeets9 w q = brokenBy (capacityOf w) 0 (searchLinks w q)
 
-unfoldable pub searchHits : List ℕ → Region → List ℕ
-searchHits w q = hitsAmong w q (searchLinks w q)
+unfoldable pub hitsBy : List ℕ → Region → (Grant → Bool) → List ℕ
+hitsBy w q passes = hitsAmong w passes (searchLinks w q)
+
+abbrev pub searchHits : List ℕ → Region → List ℕ
+searchHits w q = hitsBy w q (inRange q)
 
 unfoldable pub pointMeets9 : List ℕ → ℕ → ℕ → ℕ → Bool
 pointMeets9 w staff door quarter = coverable quarter && searchMeets9 w (rangeOfBox (pointBox staff door quarter))
@@ -47,4 +53,4 @@ removalMeets9 w (first ∷ others) = brokenBy (capacityOf w) 1 (removalLinks w (
 unfoldable pub revokeMeets9 : List ℕ → ℕ → Bool
 revokeMeets9 w n =
     let q = rangeOfNumber n in
-    searchMeets9 w q || removalMeets9 w (filter (isHit w q) (searchLinks w q))
+    searchMeets9 w q || removalMeets9 w (filter (isHit w (inRange q)) (searchLinks w q))

@@ -94,7 +94,7 @@ decide-judged w staff door quarter =
 
 pub count-judged : (w : List ℕ) → Judged (lookOrder w (searchMeets9 w rangeOfAll)) w [] (countCall w)
 unfolding countCall
-count-judged w = judged-by _ _ w [] _ (ap (λ (broken : Bool). firstFault (lookOrder w broken)) (isBroken-links w rangeOfAll)) (_, refl)
+count-judged w = judged-by _ _ w [] _ (ap (λ (broken : Bool). firstFault (lookOrder w broken)) (isBroken-links w rangeOfAll _)) (_, refl)
 
 pub write-judged : (w : List ℕ) (doors : Interval) (lent : List ℕ)
     → Judged (writeOrder w doors lent (searchMeets9 w (rangeOfDoors doors)) (searchHits w (rangeOfDoors doors))) w lent (writeCall w doors lent)
@@ -109,7 +109,7 @@ pub match-judged : (w f : List ℕ) → Judged (matchOrder w f (searchMeets9 w (
 unfolding matchCall
 match-judged w f =
     judged-by _ _ w [] _
-    (ap (λ (broken : Bool). firstFault (matchOrder w f broken)) (isBroken-links w (rangeOfDoors (doorsIn f))))
+    (ap (λ (broken : Bool). firstFault (matchOrder w f broken)) (isBroken-links w (rangeOfDoors (doorsIn f)) _))
     (firstDifference-taken _ _)
 
 pub block-judged : (f : List ℕ) (i : ℕ) → Judged (readCauses f i) f [] (blockCall f i)

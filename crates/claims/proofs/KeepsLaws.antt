@@ -2,6 +2,7 @@
 --   list-overlapping         what an accepted list wrote
 --   decide-foremost          what decide answers
 --   files-written            write gives the file of any doors and the live grants touching them
+--   questions-alike          two pools of which one holds what the other has touching some doors answer alike about those doors, a case a question
 --   load-alike               load accepts that file where cells are enough, and the index then answers alike inside its doors
 --   represents-keeps         all of it
 --   made-pools               so it is of every pool that calls made
@@ -12,16 +13,20 @@ use mathlib.Core.Path.{_≡_, refl, sym, ap, _∙_}
 use mathlib.Core.List.{List, map, List·Memᴰ, Memᴰ·map, Memᴰ·of-map, Memᴰ·cast}
 use lib.ListN.{take}
 use borrow.Author.Tests.{le-ltb}
+use Rattle.lists.specs.Tests.{filter}
 use Rattle.lists.proofs.KeyLaws.{distinct-keys-filter}
 use Rattle.lists.proofs.SortLaws.{rises-filter, rises-map, rises-getD}
 use Rattle.model.specs.declared.Box.{Box}
 use Rattle.model.specs.declared.Grant.{Grant}
 use Rattle.model.specs.declared.Decision.{Decision}
 use Rattle.model.specs.declared.Decision.the-variants as decision
+use Rattle.model.specs.Interval.{Interval}
 use Rattle.model.specs.Box.{pointBox}
 use Rattle.model.specs.Overlap.{Overlap, overlaps}
+use Rattle.model.specs.Grant.{touches}
 use Rattle.model.specs.Answer.{decisionAnswer}
 use Rattle.model.specs.Decide.{decisionOf, decideAmong}
+use Rattle.model.specs.Call.{grant, revoke, list, decide, count}
 use Rattle.model.specs.Values.{CallFits}
 use Rattle.model.specs.Book.{Book, overlapping, bookDecide, bookStep}
 use Rattle.model.specs.Histories.{Response}
@@ -41,9 +46,18 @@ use Rattle.calls.proofs.MatchLaws.{match-equal, match-differs}
 use Rattle.calls.proofs.AlikeLaws.{list-alike, decide-alike}
 use Rattle.calls.proofs.FreeHeadLaws.{grant-takes, revoke-frees}
 use Rattle.calls.proofs.SoundLaws.{call-sound, write-sound, match-sound}
-use Rattle.claims.specs.KeepsGrants.{ListsGrants, Decides, DecidesAmong, WritesFiles, LoadsAlike, KeepsGrants}
+use Rattle.claims.specs.KeepsGrants.{ListsGrants, Decides, DecidesAmong, WritesFiles, AnswerAlike, LoadsAlike, KeepsGrants}
 use Rattle.claims.specs.Claims.{MadePools}
 use Rattle.claims.proofs.MadeLaws.{made-represents, set-accepted, made-set}
+
+questions-alike : {w v : List ℕ} {b d : Book} → Represents w b → Represents v d → (doors : Interval) → d .live ≡ filter (touches doors) (b .live)
+    → AnswerAlike doors w v
+unfolding wordsStep
+questions-alike h k doors held (list q lent) asks = list-alike h k doors held q lent (asks .0) (asks .1)
+questions-alike h k doors held (decide staff door quarter) asks = decide-alike h k doors held staff door quarter asks
+questions-alike h k doors held (grant r) asks = absurd asks
+questions-alike h k doors held (revoke n) asks = absurd asks
+questions-alike h k doors held count asks = absurd asks
 
 module _ {w : List ℕ} {b : Book} (h : Represents w b) where
   pub list-overlapping : ListsGrants w (b .live)
@@ -128,8 +142,7 @@ module _ {w : List ℕ} {b : Book} (h : Represents w b) where
   pub load-alike : LoadsAlike w (b .live)
   load-alike doors d other range m room =
       let s = touching-set h doors range in
-      let loaded = made-represents (made-set s m room) in
-      (set-accepted s m room, record { lists = list-alike h loaded doors refl; decisions = decide-alike h loaded doors refl })
+      (set-accepted s m room, questions-alike h (made-represents (made-set s m room)) doors refl)
 
   pub represents-keeps : KeepsGrants (b .capacity) w (b .live)
   represents-keeps =

@@ -41,7 +41,7 @@ use Rattle.pool.specs.Layout.{fieldOf, place}
 use Rattle.pool.specs.Cell.{grantAt}
 use Rattle.pool.specs.Capacity.{capacityOf, wrongPool}
 use Rattle.pool.proofs.CapacityLaws.{capacityOf-poolLength, wrongPool-iff}
-use Rattle.adt.specs.Search.{search}
+use Rattle.adt.specs.Search.{searchBy, inRange}
 use Rattle.grants_file.specs.Layout.{maxBlocks}
 use Rattle.grants_file.specs.Record.{recordNumber}
 use Rattle.grants_file.specs.Block.{countOf, recordsOf}
@@ -73,8 +73,8 @@ capacity-most w right =
     let sized = wrongPool-iff w .0 right in
     omega (arith, capacityOf-poolLength w (sized .0) (sized .1 .long), sized .1 .few)
 
-pub hits-most : (w : List ℕ) (q : Region) → wrongPool w ≡ false → length (hitsOf (search w q)) ≤ maxGrants
-hits-most w q right = omega (arith, hits-few w q, capacity-most w right)
+pub hits-most : (w : List ℕ) (q : Region) (passes : Grant → Bool) → wrongPool w ≡ false → length (hitsOf (searchBy w q passes)) ≤ maxGrants
+hits-most w q passes right = omega (arith, hits-few w q passes, capacity-most w right)
 
 start-fits : (w : List ℕ) → Fits (startCall w .answer)
 unfolding startCall startOrder every
@@ -94,9 +94,9 @@ list-fits w q lent =
     call-fits Fits fault-fits _ w lent _
     (small-first _ _ (lit< tt)
     (λ right.
-    let few = hits-most w (rangeOfBox q) right in
+    let few = hits-most w (rangeOfBox q) (inRange (rangeOfBox q)) right in
     small-all _ (rw (lt-ltb (length (hitsOf (boxSearch w q))) aValues (omega arith)))))
-    (λ e. omega (arith, hits-most w (rangeOfBox q) (causes-absent _ _ e .0)))
+    (λ e. omega (arith, hits-most w (rangeOfBox q) (inRange (rangeOfBox q)) (causes-absent _ _ e .0)))
 
 -- 0, 1 or 2
 decision-fits : (gs : List Grant) → Fits (decisionAnswer (decideAmong gs))
@@ -118,7 +118,7 @@ count-fits w =
     call-fits FitsPair fault-fits _ w [] _ (small-all _ refl)
     (λ e.
     let right = causes-absent _ _ e .0 in
-    (omega (arith, hits-most w rangeOfAll right), omega (arith, capacity-most w right)))
+    (omega (arith, hits-most w rangeOfAll (inRange rangeOfAll) right), omega (arith, capacity-most w right)))
 
 write-fits : (w : List ℕ) (doors : Interval) (lent : List ℕ) → FitsLength (writeCall w doors lent .answer)
 unfolding writeCall writeOrder every
@@ -126,9 +126,9 @@ write-fits w doors lent =
     call-fits FitsLength fault-fits _ w lent _
     (small-first _ _ (lit< tt)
     (λ right.
-    let few = hits-most w (rangeOfDoors doors) right in
+    let few = hits-most w (rangeOfDoors doors) (inRange (rangeOfDoors doors)) right in
     small-all _ (rw (lt-ltb (lengthNeeded (hitsOf (doorSearch w doors))) aValues (omega arith)))))
-    (λ e. omega (arith, hits-most w (rangeOfDoors doors) (causes-absent _ _ e .0)))
+    (λ e. omega (arith, hits-most w (rangeOfDoors doors) (inRange (rangeOfDoors doors)) (causes-absent _ _ e .0)))
 
 -- the causes of defects in two rows
 small-join : (cs ds : List DefectCause) → SmallAll (causesOf cs) → SmallAll (causesOf ds) → SmallAll (causesOf (cs ++ ds))

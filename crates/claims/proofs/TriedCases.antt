@@ -35,7 +35,7 @@ use Rattle.pool.specs.Layout.{place, fieldOf}
 use Rattle.pool.specs.Capacity.{capacityOf, wrongLength, wrongPool}
 use Rattle.pool.specs.Cell.{grantAt, cellOf, withCell}
 use Rattle.pool.specs.Fresh.{freeCells, freshPool}
-use Rattle.adt.specs.Search.{Search, broken, going, meet, visitBy, enter, search}
+use Rattle.adt.specs.Search.{Search, broken, going, meet, visitBy, enter, searchBy, search}
 use Rattle.adt.specs.Insert.{descendFrom, descend, freeBroken, inserted}
 use Rattle.adt.specs.Remove.{follow, terminalFrom, replaced, unlinked, freed, removed}
 use Rattle.adt.specs.Links.{brokenBy, searchFrom, insertionFrom, removalFrom, searchLinks, insertionLinks, removalLinks, freeLinks, hitsAmong}
@@ -47,7 +47,7 @@ use Rattle.grants_file.specs.Defects.{recordsDefects, lastBefore, contentDefect
 use Rattle.grants_file.specs.Verdict.{fileCauses}
 use Rattle.block_read.specs.BlockRead.{notInFile, wrongCount, restDefects, readCauses, partOf, blockCall}
 use Rattle.calls.specs.Causes.{grantBroken, revokeBroken}
-use Rattle.calls.specs.LinkCauses.{searchMeets9, pointMeets9, searchHits, grantMeets9, revokeMeets9}
+use Rattle.calls.specs.LinkCauses.{searchMeets9, pointMeets9, hitsBy, searchHits, grantMeets9, revokeMeets9}
 use Rattle.calls.specs.Order.{startOrder, grantOrder, revokeOrder, listOrder, lookOrder, writeOrder, loadOrder, matchOrder}
 use Rattle.calls.specs.Calls.{startCall, grantCall, revokeCall, listCall, decideCall, countCall, wordsStep}
 use Rattle.calls.specs.FileCalls.{writeCall, grantAll, loadCall, firstDifference, matchCall}
@@ -269,9 +269,9 @@ cases =
 pub tried-cases : T (passed (cases ++ linkCases ++ faultCases ++ seniorCases ++ quarterCases))
 unfolding filter every any each sameNumbers countFrom overwrite insertBy sortBy overlaps sameGrant firstFault refusing reversedBox outranks decidingOf
     decideAmong bookGrant bookRevoke bookList bookDecide bookCount bookStep rootRegion half meets pointOf inside rangeOfBox rangeOfDoors rangeOfNumber
-    place fieldOf capacityOf wrongLength wrongPool grantAt withCell freeCells freshPool meet visitBy enter search descendFrom descend freeBroken inserted
+    place fieldOf capacityOf wrongLength wrongPool grantAt withCell freeCells freshPool meet visitBy enter searchBy descendFrom descend freeBroken inserted
     follow terminalFrom replaced unlinked freed removed brokenBy searchFrom insertionFrom removalFrom searchLinks insertionLinks removalLinks freeLinks
-    hitsAmong searchMeets9 pointMeets9 searchHits grantMeets9 revokeMeets9 grantBroken revokeBroken startOrder grantOrder revokeOrder listOrder lookOrder
+    hitsAmong searchMeets9 pointMeets9 hitsBy grantMeets9 revokeMeets9 grantBroken revokeBroken startOrder grantOrder revokeOrder listOrder lookOrder
     startCall grantCall revokeCall listCall decideCall countCall wordsStep responses after base256 checksum encodeRecord decodeRecord sealed headerBlock
     recordBlock recordsOf wrongChecksum wrongPadding fileOf grantsIn wrongBlockCount recordsDefects lastBefore contentDefects fileDefects fileCauses
     notInFile wrongCount restDefects readCauses partOf writeOrder loadOrder matchOrder writeCall grantAll loadCall firstDifference matchCall

@@ -4,7 +4,7 @@
 --   DecidesAmong w gs    decide's answer is the foremost of those at the point      Decides: of one grant
 --   MatchesFiles w gs    match finds where they differ from a file                  MatchesSet: from one
 --   WritesFiles w gs     write gives the file of any doors                          Writes: one file
---   LoadsAlike w gs      load takes that file, and answers alike inside the doors   AnswerAlike: of two pools
+--   LoadsAlike w gs      load takes that file, and answers alike inside the doors   AnswerAlike: two pools, asked by Asks
 --   UsesFreeHead w       grants take the free head; a revoked cell becomes it
 --   NeverBroken w        no call gives 1 or 9
 --   KeepsGrants c w gs   all of it, the tree, and the plain book's responses to every list of calls
@@ -27,7 +27,7 @@ use Rattle.model.specs.Overlap.{Overlap}
 use Rattle.model.specs.Grant.{touches}
 use Rattle.model.specs.Answer.{Answer, accepted, refusal, decisionAnswer}
 use Rattle.model.specs.Decide.{decisionOf}
-use Rattle.model.specs.Call.{Request, requested, Call}
+use Rattle.model.specs.Call.{Request, requested, Call, grant, revoke, list, decide, count}
 use Rattle.model.specs.Values.{RequestFits, CallFits, CallsFit}
 use Rattle.model.specs.Book.{bookOf, bookStep}
 use Rattle.model.specs.Histories.{responseOf, responses}
@@ -85,12 +85,17 @@ Writes w doors f =
 abbrev pub WritesFiles : List ℕ → List Grant → Type 0
 WritesFiles w gs = (doors : Interval) → DoorRange doors → Writes w doors (fileOf doors (touching doors gs))
 
--- asked the same, both pools answer every list and decide with doors inside the range alike, lent lists included
-pub record AnswerAlike (doors : Interval) (w v : List ℕ) : Type 0 where
-  pub lists : (q : Box) (lent : List ℕ) → T (holds doors (doorsOf q .from)) → T (holds doors (doorsOf q .to))
-      → responseOf (listCall w q lent) ≡ responseOf (listCall v q lent)
-  pub decisions : (staff door quarter : ℕ) → T (holds doors door)
-      → responseOf (decideCall w staff door quarter) ≡ responseOf (decideCall v staff door quarter)
+-- the call is a question about doors inside the range: list's box has both its doors there, decide's point its door
+abbrev pub Asks : Interval → Call → Type 0
+Asks doors (list q lent) = T (holds doors (doorsOf q .from)) × T (holds doors (doorsOf q .to))
+Asks doors (decide staff door quarter) = T (holds doors door)
+Asks doors (grant r) = ⊥
+Asks doors (revoke n) = ⊥
+Asks doors count = ⊥
+
+-- both pools answer every such question alike, lent lists included
+abbrev pub AnswerAlike : Interval → List ℕ → List ℕ → Type 0
+AnswerAlike doors w v = (call : Call) → Asks doors call → responseOf (wordsStep w call) ≡ responseOf (wordsStep v call)
 
 -- load accepts the file of the doors on every index with cells enough, whatever it held
 abbrev pub LoadsAlike : List ℕ → List Grant → Type 0

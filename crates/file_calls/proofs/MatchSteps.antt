@@ -26,6 +26,7 @@ use Rattle.grants_file.specs.File.{doorsIn, grantsIn}
 use Rattle.grants_file.specs.Verdict.{fileCauses, judging}
 use Rattle.grants_file.specs.FileSets.{Accepted}
 use Rattle.grants_file.proofs.GrantSteps.{answer-accepted, answer-refused}
+use Rattle.adt.specs.Search.{inRange}
 use Rattle.steps.specs.declared.hits.Hits.{Hits}
 use Rattle.steps.specs.declared.hits.Hits.the-variants.{Broken, Found}
 use Rattle.calls.specs.Walks.{doorSearch, isBroken}
@@ -71,14 +72,14 @@ module _ (w f : List ℕ) where
           touching : range ≡ rangeOfDoors (doorsIn f)
           touching = asked ∙ ap₂ (λ (x : ℕ) (y : ℕ). rangeOfDoors (record { from = x; to = y })) first last
 
-          module _ (h : List ℕ) {r : Hits} (hit : HitsFound w range h r) where
+          module _ (h : List ℕ) {r : Hits} (hit : HitsFound w range (inRange range) h r) where
             pub match-broken : r ≡ Broken → refusal BrokenLinks ≡ matchCall w f .answer
-            match-broken b = leaves-as (left ∙ first-holds w [] compared _ _ (ap isBroken (broken-search w touching h hit b))) .answered
+            match-broken b = leaves-as (left ∙ first-holds w [] compared _ _ (ap isBroken (broken-search w inRange touching h hit b))) .answered
 
             pub match-done : {found : ℕ} → r ≡ Found found → (cells : List ℕ) {m : Matched} → take found cells ≡ sortBy (numberIn w) (take found h)
                 → m ≡ firstDifference (grantsAt w cells found) (grantsIn f)
                 → matchedAnswer m ≡ matchCall w f .answer
             match-done b cells sorted e =
-                let at = found-hits w touching h hit b in
+                let at = found-hits w inRange touching h hit b in
                 ap matchedAnswer (e ∙ ap (λ (gs : List Grant). firstDifference gs (grantsIn f)) (touching-sorted w (doorsIn f) h at cells sorted))
                 ∙ leaves-as (left ∙ first-fails w [] compared _ _ (at .unbroken) ∙ none-left w [] compared) .answered

@@ -20,7 +20,7 @@ use Rattle.model.specs.Arguments.{reversedDoors}
 use Rattle.geometry.specs.Region.{Region}
 use Rattle.geometry.specs.SearchRange.{rangeOfDoors}
 use Rattle.pool.specs.Capacity.{wrongPool, poolCapacity}
-use Rattle.adt.specs.Search.{Search}
+use Rattle.adt.specs.Search.{Search, inRange}
 use Rattle.grants_file.specs.Layout.{blockBytes}
 use Rattle.grants_file.specs.File.{blocksFor, fileOf}
 use Rattle.steps.specs.declared.hits.Hits.{Hits}
@@ -84,16 +84,17 @@ module _ (w : List ℕ) (doors : Interval) (lent : List ℕ) where
       pub write-reversed : doors .to < doors .from → Lends (refusal Reversed) lent (writeCall w doors lent)
       write-reversed r = lends-as (reversed-step right (lt-ltb _ _ r))
 
-      module _ (forward : doors .from ≤ doors .to) {range : Region} (a : range ≡ rangeOfDoors doors) (h : List ℕ) {r : Hits} (f : HitsFound w range h r) where
+      module _ (forward : doors .from ≤ doors .to) {range : Region} (a : range ≡ rangeOfDoors doors) (h : List ℕ)
+          {r : Hits} (f : HitsFound w range (inRange range) h r) where
         pub write-broken : r ≡ Broken → Lends (refusal BrokenLinks) lent (writeCall w doors lent)
-        write-broken b = lends-as (broken-step right (le-ltb _ _ forward) (ap isBroken (broken-search w a h f b)))
+        write-broken b = lends-as (broken-step right (le-ltb _ _ forward) (ap isBroken (broken-search w inRange a h f b)))
 
         module _ {found : ℕ} (b : r ≡ Found found) {needed : ℕ} (size : needed ≡ blockBytes * blocksFor found) where
-          at : HitsAt w (rangeOfDoors doors) h found
-          at = found-hits w a h f b
+          at : HitsAt w (rangeOfDoors doors) (inRange (rangeOfDoors doors)) h found
+          at = found-hits w inRange a h f b
 
           long : length (hitsOf s) ≡ found
-          long = length-hits w (rangeOfDoors doors) h at
+          long = length-hits w (rangeOfDoors doors) _ h at
 
           exact : lengthNeeded (hitsOf s) ≡ needed
           exact = ap (λ (k : ℕ). blockBytes * blocksFor k) long ∙ sym size

@@ -13,7 +13,7 @@ use Rattle.geometry.specs.Levels.{levels}
 use Rattle.geometry.specs.SearchRange.{rangeOfNumber}
 use Rattle.pool.specs.Capacity.{Sized}
 use Rattle.pool.proofs.CapacityLaws.{capacityOf-poolLength}
-use Rattle.adt.specs.Search.{Spot, going, search}
+use Rattle.adt.specs.Search.{Spot, going, search, inRange}
 use Rattle.adt.specs.SearchMemory.{metIn, foundIn, searchIn, Encodes}
 use Rattle.adt.specs.Links.{Link, hitsAmong}
 use Rattle.adt.proofs.EnterSteps.{stands-as}
@@ -58,11 +58,11 @@ module _ (w : List ℕ) (n c : ℕ) (q : Region) (eq : q ≡ rangeOfNumber n) (s
   number-at e z =
       let st : Encodes c true h t (search w q) = subst (λ (b : Bool). Encodes c b h t (search w q)) e s in
       let cap = capacityOf-poolLength w c (sized .long) in
-      let cell = stands-within w q st (sized .few) cap 0 (omega arith) in
+      let cell = stands-within w q (inRange q) st (sized .few) cap 0 (omega arith) in
       let take = head-take (foundIn t) h z (omega (arith, st .counted .hit-room)) in
       let first : Spot = record { level = getD t 2 0; link = getD t 3 0 } in
       let found : search w q ≡ going (metIn t) (getD h 0 0 ∷ take .0) first = sym (st .state) ∙ ap (λ (hs : List ℕ). going (metIn t) hs first) (take .1) in
-      let all = search-going w q _ _ _ found in
+      let all = search-going w q (inRange q) _ _ _ found in
       let some = map-some _ (all .found) in
       let hit = all .first-hit (some .0) (some .1) (some .2) in
       let on : getD w (getD t 3 0) 0 ≡ getD h 0 0 = hit .holds ∙ sym (hit .cell) in

@@ -17,6 +17,7 @@ use Rattle.geometry.specs.Region.{Region}
 use Rattle.geometry.specs.SearchRange.{rangeOfBox}
 use Rattle.pool.specs.Capacity.{poolCapacity}
 use Rattle.pool.specs.Cell.{grantAt}
+use Rattle.adt.specs.Search.{inRange}
 use Rattle.steps.specs.declared.hits.Hits.{Hits}
 use Rattle.steps.specs.declared.hits.Hits.the-variants.{Broken, Found}
 use Rattle.steps.specs.Hits.{HitsFound, grantsAt}
@@ -40,15 +41,15 @@ module _ (w : List ℕ) (door quarter i : ℕ) {c : ℕ} (e : c ≡ poolCapacity
     range : q ≡ rangeOfBox (doorBox door quarter)
     range = a ∙ ap rangeOfBox asked
 
-    module _ (h : List ℕ) {r : Hits} (f : HitsFound w q h r) where
+    module _ (h : List ℕ) {r : Hits} (f : HitsFound w q (inRange q) h r) where
       pub touching-broken : r ≡ Broken → Refused BrokenLinks ≡ touchingAt w door quarter i
       unfolding touchingAt lookOrder firstFault
-      touching-broken met = rw (early, pool-taken w e n .right, broken-search w range h f met)
+      touching-broken met = rw (early, pool-taken w e n .right, broken-search w inRange range h f met)
 
       pub touching-done : {found : ℕ} → r ≡ Found found → {t : Touching} → t ≡ placed (sortBy (λ g. g .number) (grantsAt w h found)) i
           → t ≡ touchingAt w door quarter i
       unfolding touchingAt lookOrder firstFault
       touching-done unmet {t} done =
-          let at = found-hits w range h f unmet in
+          let at = found-hits w inRange range h f unmet in
           rw (early, pool-taken w e n .right, at .unbroken)
           (done ∙ ap (λ (ks : List ℕ). placed (sortBy (λ (g : Grant). g .number) (map (grantAt w) ks)) i) (sym (at .found)))

@@ -12,6 +12,7 @@ use Rattle.model.specs.Answer.{accepted, refusal}
 use Rattle.geometry.specs.Region.{Region}
 use Rattle.geometry.specs.SearchRange.{rangeOfAll}
 use Rattle.pool.specs.Capacity.{poolCapacity}
+use Rattle.adt.specs.Search.{inRange}
 use Rattle.steps.specs.declared.hits.Hits.{Hits}
 use Rattle.steps.specs.declared.hits.Hits.the-variants.{Broken, Found}
 use Rattle.calls.specs.Walks.{fullSearch, hitsOf}
@@ -26,17 +27,17 @@ module _ (w : List ℕ) {c : ℕ} (e : c ≡ poolCapacity w) where
   unfolding countCall
   count-bad z = look-bad w _ e _ z
 
-  module _ (n : ¬ (c ≡ 0)) {q : Region} (all : q ≡ rangeOfAll) (h : List ℕ) {r : Hits} (f : HitsFound w q h r) where
+  module _ (n : ¬ (c ≡ 0)) {q : Region} (all : q ≡ rangeOfAll) (h : List ℕ) {r : Hits} (f : HitsFound w q (inRange q) h r) where
     pub count-broken : r ≡ Broken → refusal BrokenLinks ≡ countCall w .answer
     unfolding countCall
-    count-broken b = look-broken w rangeOfAll _ e n all h f b
+    count-broken b = look-broken w inRange rangeOfAll _ e n all h f b
 
     module _ {live : ℕ} (b : r ≡ Found live) where
       pub count-few : live ≤ c
-      count-few = omega (arith, found-hits w all h f b .few, pool-taken w e n .capacity)
+      count-few = omega (arith, found-hits w inRange all h f b .few, pool-taken w e n .capacity)
 
       pub count-done : accepted (live ∷ (c - live) ∷ []) ≡ countCall w .answer
       unfolding countCall
       count-done =
-          let long : length (hitsOf (fullSearch w)) ≡ live = length-hits w rangeOfAll h (found-hits w all h f b) in
-          rw (← long, ← pool-taken w e n .capacity) (look-done w rangeOfAll _ e n all h f b)
+          let long : length (hitsOf (fullSearch w)) ≡ live = length-hits w rangeOfAll _ h (found-hits w inRange all h f b) in
+          rw (← long, ← pool-taken w e n .capacity) (look-done w inRange rangeOfAll _ e n all h f b)

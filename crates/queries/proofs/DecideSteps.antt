@@ -18,6 +18,7 @@ use Rattle.geometry.specs.Region.{Region}
 use Rattle.geometry.specs.SearchRange.{rangeOfBox}
 use Rattle.pool.specs.Capacity.{poolCapacity}
 use Rattle.pool.specs.Cell.{grantAt}
+use Rattle.adt.specs.Search.{inRange}
 use Rattle.steps.specs.declared.hits.Hits.{Hits}
 use Rattle.steps.specs.declared.hits.Hits.the-variants.{Broken, Found}
 use Rattle.steps.specs.Hits.{HitsFound, grantsAt}
@@ -41,15 +42,15 @@ module _ (w : List ℕ) (staff door quarter : ℕ) {c : ℕ} (e : c ≡ poolCapa
     asked : q ≡ range
     asked = a ∙ ap rangeOfBox point
 
-    module _ (h : List ℕ) {r : Hits} (f : HitsFound w q h r) where
+    module _ (h : List ℕ) {r : Hits} (f : HitsFound w q (inRange q) h r) where
       pub decide-broken : r ≡ Broken → refusal BrokenLinks ≡ decideCall w staff door quarter .answer
       unfolding decideCall
-      decide-broken i = rw early (look-broken w range _ e n asked h f i)
+      decide-broken i = rw early (look-broken w inRange range _ e n asked h f i)
 
       pub decide-done : {found : ℕ} → r ≡ Found found → {d : Decision} → d ≡ decideAmong (grantsAt w h found)
           → decisionAnswer d ≡ decideCall w staff door quarter .answer
       unfolding decideCall
       decide-done i decided =
           rw early
-          (ap decisionAnswer (decided ∙ ap (λ (ks : List ℕ). decideAmong (map (grantAt w) ks)) (sym (found-hits w asked h f i .found)))
-          ∙ look-done w range _ e n asked h f i)
+          (ap decisionAnswer (decided ∙ ap (λ (ks : List ℕ). decideAmong (map (grantAt w) ks)) (sym (found-hits w inRange asked h f i .found)))
+          ∙ look-done w inRange range _ e n asked h f i)

@@ -21,7 +21,7 @@ use Rattle.model.specs.Arguments.{reversedBox}
 use Rattle.geometry.specs.Region.{Region}
 use Rattle.geometry.specs.SearchRange.{rangeOfBox}
 use Rattle.pool.specs.Capacity.{wrongPool, poolCapacity}
-use Rattle.adt.specs.Search.{Search}
+use Rattle.adt.specs.Search.{Search, inRange}
 use Rattle.steps.specs.declared.hits.Hits.{Hits}
 use Rattle.steps.specs.declared.hits.Hits.the-variants.{Broken, Found}
 use Rattle.calls.specs.Walks.{boxSearch, hitsOf, isBroken}
@@ -86,16 +86,17 @@ module _ (w : List ℕ) (q : Box) (lent : List ℕ) where
       pub list-reversed : reversed ≡ true → Lends (refusal Reversed) lent (listCall w q lent)
       list-reversed r = lends-as (reversed-step right (sym v ∙ r))
 
-      module _ (forward : reversed ≡ false) {range : Region} (a : range ≡ rangeOfBox q) (h : List ℕ) {r : Hits} (f : HitsFound w range h r) where
+      module _ (forward : reversed ≡ false) {range : Region} (a : range ≡ rangeOfBox q) (h : List ℕ)
+          {r : Hits} (f : HitsFound w range (inRange range) h r) where
         pub list-broken : r ≡ Broken → Lends (refusal BrokenLinks) lent (listCall w q lent)
-        list-broken b = lends-as (broken-step right (sym v ∙ forward) (ap isBroken (broken-search w a h f b)))
+        list-broken b = lends-as (broken-step right (sym v ∙ forward) (ap isBroken (broken-search w inRange a h f b)))
 
         module _ {found : ℕ} (b : r ≡ Found found) where
-          at : HitsAt w (rangeOfBox q) h found
-          at = found-hits w a h f b
+          at : HitsAt w (rangeOfBox q) (inRange (rangeOfBox q)) h found
+          at = found-hits w inRange a h f b
 
           long : length (hitsOf s) ≡ found
-          long = length-hits w (rangeOfBox q) h at
+          long = length-hits w (rangeOfBox q) _ h at
 
           pub list-short : length lent < found → Lends (refusal (ListTooShort found)) lent (listCall w q lent)
           list-short short = rw (← long) (lends-as (short-step right (sym v ∙ forward) (at .unbroken) (omega (arith, long))))

@@ -6,12 +6,13 @@ use Prim.Native.Nat.{ℕ}
 use mathlib.Core.Path.{_≡_, refl, ap, _∙_}
 use mathlib.Core.Bool.{Bool, false}
 use mathlib.Core.List.{List, []}
+use Rattle.model.specs.declared.Grant.{Grant}
 use Rattle.model.specs.declared.Fault.the-variants.{BadPool, BrokenLinks}
 use Rattle.model.specs.Answer.{Answer, refusal}
 use Rattle.model.specs.Refusal.{Step, refusing}
 use Rattle.geometry.specs.Region.{Region}
 use Rattle.pool.specs.Capacity.{poolCapacity}
-use Rattle.adt.specs.Search.{search}
+use Rattle.adt.specs.Search.{searchBy}
 use Rattle.steps.specs.declared.hits.Hits.{Hits}
 use Rattle.steps.specs.declared.hits.Hits.the-variants.{Broken, Found}
 use Rattle.calls.specs.Walks.{isBroken}
@@ -31,20 +32,20 @@ module _ (w : List ℕ) (done : Step (List ℕ)) {c : ℕ} (e : c ≡ poolCapaci
   look-unwalked n =
       leaves-as (first-fails w [] done _ _ (pool-taken w e n .right) ∙ first-fails w [] done _ _ refl ∙ none-left w [] done) .answered
 
--- and searches for the range q
-module _ (w : List ℕ) (q : Region) (done : Step (List ℕ)) {c : ℕ} (e : c ≡ poolCapacity w) where
+-- and searches for the range q, by a test that may go by it
+module _ (w : List ℕ) (test : Region → Grant → Bool) (q : Region) (done : Step (List ℕ)) {c : ℕ} (e : c ≡ poolCapacity w) where
   abbrev answer : Answer
-  answer = refusing (lookOrder w (isBroken (search w q))) w [] done .answer
+  answer = refusing (lookOrder w (isBroken (searchBy w q (test q)))) w [] done .answer
 
-  module _ (n : ¬ (c ≡ 0)) {p : Region} (same : p ≡ q) (h : List ℕ) {r : Hits} (f : HitsFound w p h r) where
+  module _ (n : ¬ (c ≡ 0)) {p : Region} (same : p ≡ q) (h : List ℕ) {r : Hits} (f : HitsFound w p (test p) h r) where
     pub look-broken : r ≡ Broken → refusal BrokenLinks ≡ answer
     unfolding lookOrder
     look-broken b =
-        leaves-as (first-fails w [] done _ _ (pool-taken w e n .right) ∙ first-holds w [] done _ _ (ap isBroken (broken-search w same h f b))) .answered
+        leaves-as (first-fails w [] done _ _ (pool-taken w e n .right) ∙ first-holds w [] done _ _ (ap isBroken (broken-search w test same h f b))) .answered
 
     pub look-done : {found : ℕ} → r ≡ Found found → done .answer ≡ answer
     unfolding lookOrder
     look-done b =
         let right = first-fails w [] done _ _ (pool-taken w e n .right) in
-        let unbroken = first-fails w [] done _ _ (found-hits w same h f b .unbroken) in
+        let unbroken = first-fails w [] done _ _ (found-hits w test same h f b .unbroken) in
         leaves-as (right ∙ unbroken ∙ none-left w [] done) .answered

@@ -11,12 +11,11 @@ use Rattle.model.specs.Limits.{maxGrants}
 use Rattle.model.specs.Answer.{accepted}
 use Rattle.model.specs.Refusal.{Step}
 use Rattle.model.proofs.RefusalLaws.{causes-absent, accepted-none, accepted-done}
-use Rattle.geometry.specs.SearchRange.{rangeOfBox}
 use Rattle.pool.proofs.CapacityLaws.{capacityOf-poolLength, wrongPool-iff}
 use Rattle.calls.specs.Walks.{boxSearch, hitsOf}
 use Rattle.calls.specs.Order.{listOrder}
 use Rattle.calls.specs.Calls.{listCall}
-use Rattle.calls.proofs.FewHitsLaws.{hits-few}
+use Rattle.calls.proofs.FewHitsLaws.{box-few}
 
 pub list-few : (w : List ℕ) (q : Box) (lent : List ℕ) (n : ℕ) → listCall w q lent .answer ≡ accepted (n ∷ []) → n ≤ maxGrants
 unfolding listCall listOrder
@@ -25,4 +24,4 @@ list-few w q lent n e =
     let sized = wrongPool-iff w .0 right in
     let done = ap (λ (r : Step (List ℕ)). r .answer) (accepted-done _ w lent _ _ e) in
     let count : length (hitsOf (boxSearch w q)) ≡ n = cc in
-    omega (arith, hits-few w (rangeOfBox q), capacityOf-poolLength w (sized .0) (sized .1 .long), sized .1 .few, count)
+    omega (arith, box-few w q, capacityOf-poolLength w (sized .0) (sized .1 .long), sized .1 .few, count)

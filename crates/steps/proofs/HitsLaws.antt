@@ -18,7 +18,7 @@ use Rattle.model.specs.declared.Grant.{Grant}
 use Rattle.pool.specs.Capacity.{Sized, InPool}
 use Rattle.pool.specs.Cell.{grantAt}
 use Rattle.pool.proofs.CapacityLaws.{cell-inPool, capacityOf-poolLength}
-use Rattle.adt.specs.Search.{broken, search}
+use Rattle.adt.specs.Search.{broken, searchBy}
 use Rattle.adt.specs.SearchMemory.{foundIn, Encodes}
 use Rattle.adt.proofs.EnterSteps.{stands-as}
 use Rattle.adt.proofs.HitLaws.{stands-within}
@@ -27,16 +27,16 @@ use Rattle.steps.specs.declared.hits.Hits.the-variants.{Broken, Found}
 use Rattle.calls.specs.Walks.{isBroken, hitsOf}
 use Rattle.steps.specs.Hits.{CellsAt, HitsAt, HitsFound}
 
-module _ (w : List ℕ) (c : ℕ) (q : Region) (sized : Sized w c)
-    {r : Bool} {h t : List ℕ} (s : Encodes c r h t (search w q)) where
-  pub hits-broken : r ≡ false → HitsFound w q h Broken
+module _ (w : List ℕ) (c : ℕ) (q : Region) (passes : Grant → Bool) (sized : Sized w c)
+    {r : Bool} {h t : List ℕ} (s : Encodes c r h t (searchBy w q passes)) where
+  pub hits-broken : r ≡ false → HitsFound w q passes h Broken
   unfolding HitsFound
   hits-broken e = sym (stands-as s e)
 
-  pub hits-found : r ≡ true → HitsFound w q h (Found (foundIn t))
+  pub hits-found : r ≡ true → HitsFound w q passes h (Found (foundIn t))
   unfolding HitsFound
   hits-found e =
-      let st : Encodes c true h t (search w q) = subst (λ (b : Bool). Encodes c b h t (search w q)) e s in
+      let st : Encodes c true h t (searchBy w q passes) = subst (λ (b : Bool). Encodes c b h t (searchBy w q passes)) e s in
       let cap = capacityOf-poolLength w c (sized .long) in
       let n = st .counted in
       record {
@@ -48,23 +48,23 @@ module _ (w : List ℕ) (c : ℕ) (q : Region) (sized : Sized w c)
               room = n .hit-room;
               few = omega (arith, n .found-met, n .met-cells, sized .few);
               cell = λ i lt.
-                  let k = stands-within w q st (sized .few) cap i lt in
+                  let k = stands-within w q passes st (sized .few) cap i lt in
                   cell-inPool sized (k .some) (k .few);
             };
       }
 
--- p is the range that was searched for
-module _ (w : List ℕ) {p q : Region} (same : p ≡ q) (h : List ℕ) {r : Hits} (f : HitsFound w p h r) where
-  pub broken-search : r ≡ Broken → search w q ≡ broken
+-- p is the range that was searched for; the test may go by it
+module _ (w : List ℕ) (test : Region → Grant → Bool) {p q : Region} (same : p ≡ q) (h : List ℕ) {r : Hits} (f : HitsFound w p (test p) h r) where
+  pub broken-search : r ≡ Broken → searchBy w q (test q) ≡ broken
   unfolding HitsFound
-  broken-search e = ap (search w) (sym same) ∙ subst (HitsFound w p h) e f
+  broken-search e = ap (λ (g : Region). searchBy w g (test g)) (sym same) ∙ subst (HitsFound w p (test p) h) e f
 
-  pub found-hits : {n : ℕ} → r ≡ Found n → HitsAt w q h n
+  pub found-hits : {n : ℕ} → r ≡ Found n → HitsAt w q (test q) h n
   unfolding HitsFound
-  found-hits {n} e = subst (λ (g : Region). HitsAt w g h n) same (subst (HitsFound w p h) e f)
+  found-hits {n} e = subst (λ (g : Region). HitsAt w g (test g) h n) same (subst (HitsFound w p (test p) h) e f)
 
-pub length-hits : (w : List ℕ) (q : Region) (h : List ℕ) {n : ℕ} → HitsAt w q h n → length (hitsOf (search w q)) ≡ n
-length-hits w q h {n} at = ap length (at .found) ∙ length-take-le n h (omega (arith, at .cells .room, at .cells .few))
+pub length-hits : (w : List ℕ) (q : Region) (passes : Grant → Bool) (h : List ℕ) {n : ℕ} → HitsAt w q passes h n → length (hitsOf (searchBy w q passes)) ≡ n
+length-hits w q passes h {n} at = ap length (at .found) ∙ length-take-le n h (omega (arith, at .cells .room, at .cells .few))
 
 -- what a read of a cell asks, of the cell of a hit
 pub cell-hit : {w h : List ℕ} {n : ℕ} → CellsAt w h n → {i k : ℕ} → i < n → k ≡ getD h i 0 → InPool w k

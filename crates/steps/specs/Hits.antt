@@ -1,14 +1,14 @@
 -- What a search leaves for list, decide, count, write and match: the cells of its hits, in order, at the start of a list of 2,048 words.
 --   Searchable w c q hits  what the search asks: a pool of c cells, a range of that form, and room for a hit of every cell
 --   CellsAt w hits n       the first n of the list are cells of the pool w
---   HitsAt w q hits n      they are the hits of the search for the range q
+--   HitsAt w q passes hits n     they are the hits of the search for the range q by a test
 --   grantsAt w hits n      the grants in those cells
 --   numbersAt w ks         the numbers of the grants in the cells ks
---   HitsFound w q hits r   r says of that search that it is broken, or how many hits are at the start of the list
+--   HitsFound w q passes hits r  r says of that search that it is broken, or how many hits are at the start of the list
 -- The contracts of inner functions cite these; no claim does. Assumes nothing: these are definitions.
 use Prim.Native.Nat.{ℕ, _<_, _≤_}
 use mathlib.Core.Path.{_≡_}
-use mathlib.Core.Bool.{false}
+use mathlib.Core.Bool.{Bool, false}
 use mathlib.Core.List.{List, map}
 use lib.ListN.{length, take, getD}
 use Rattle.model.specs.Limits.{maxGrants}
@@ -17,7 +17,7 @@ use Rattle.geometry.specs.Region.{Region}
 use Rattle.geometry.specs.SearchRange.{OneSided}
 use Rattle.pool.specs.Capacity.{Sized, InPool, capacityOf}
 use Rattle.pool.specs.Cell.{grantAt}
-use Rattle.adt.specs.Search.{broken, search}
+use Rattle.adt.specs.Search.{broken, searchBy}
 use Rattle.steps.specs.declared.hits.Hits.{Hits}
 use Rattle.steps.specs.declared.hits.Hits.the-variants.{Broken, Found}
 use Rattle.calls.specs.Walks.{hitsOf, isBroken}
@@ -41,12 +41,12 @@ abbrev pub numbersAt : List ℕ → List ℕ → List ℕ
 numbersAt w ks = map (λ g. g .number) (map (grantAt w) ks)
 
 -- the search met no cause of fault 9, and its hits are the first n of the list
-pub record HitsAt (w : List ℕ) (q : Region) (hits : List ℕ) (n : ℕ) : Type 0 where
-  pub unbroken : isBroken (search w q) ≡ false
-  pub found : hitsOf (search w q) ≡ take n hits
+pub record HitsAt (w : List ℕ) (q : Region) (passes : Grant → Bool) (hits : List ℕ) (n : ℕ) : Type 0 where
+  pub unbroken : isBroken (searchBy w q passes) ≡ false
+  pub found : hitsOf (searchBy w q passes) ≡ take n hits
   pub few : n ≤ capacityOf w
   pub cells : CellsAt w hits n
 
-unfoldable pub HitsFound : List ℕ → Region → List ℕ → Hits → Type 0
-HitsFound w q hits Broken = search w q ≡ broken
-HitsFound w q hits (Found n) = HitsAt w q hits n
+unfoldable pub HitsFound : List ℕ → Region → (Grant → Bool) → List ℕ → Hits → Type 0
+HitsFound w q passes hits Broken = searchBy w q passes ≡ broken
+HitsFound w q passes hits (Found n) = HitsAt w q passes hits n

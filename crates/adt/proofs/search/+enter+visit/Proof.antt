@@ -15,6 +15,7 @@ use Rattle.pool.specs.Capacity.{poolLength}
 use Rattle.geometry.specs.Axis.{axisOf}
 use Rattle.geometry.specs.Levels.{levels}
 use Rattle.geometry.specs.Region.{Region, half, meets}
+use Rattle.adt.specs.Search.{inRange}
 use Rattle.adt.specs.SearchMemory.{Counted, Encodes, Visiting, Entering}
 use Rattle.adt.proofs.EnterSteps.{ChildRegion, child-meets, child-half, child-root, child-deep, child-apart, child-past, child-visited}
 use Rattle.adt.proofs.EnterSteps.{encodes-as, subtree, subtree-blank, subtree-entered, visit-cut, visit-left-cut, visit-whole}
@@ -101,7 +102,7 @@ enter-returns t c =
     let start = c .before .before in
     let a = start .args in
     let p = start .pre .1 in
-    child-deep (a .pool .now) (a .cells) (a .range .now) (a .below) (a .link) (p .leads) _ (p .ready .counted) (c .if1 .taken)
+    child-deep (a .pool .now) (a .cells) (a .range .now) _ (a .below) (a .link) (p .leads) _ (p .ready .counted) (c .if1 .taken)
 
 enter-axis-of-requires : (t : ℕ) → enter-lts.Need-axis-of-requires (enter-calls t) (enter-at t) enter.Post
 enter-axis-of-requires t c κs = search needs
@@ -118,7 +119,7 @@ enter-returns-2 t c =
     let start = one .before .before in
     let a = start .args in
     let p = start .pre .1 in
-    child-apart (a .pool .now) (a .cells) (a .range .now) (a .below) (a .link) (p .leads) _ (p .ready .counted) (one .if1 .left)
+    child-apart (a .pool .now) (a .cells) (a .range .now) _ (a .below) (a .link) (p .leads) _ (p .ready .counted) (one .if1 .left)
     (child-meets (a .range .now) _ (a .side) _ (two .if2 .taken) (axed .axis-of .ensures .0) (asked .half-meets .ensures) ∙ not-true _ (c .if3 .taken))
 
 enter-mul-half-of : (t : ℕ) → enter-lts.Need-mul-half-of (enter-calls t) (enter-at t) enter.Post
@@ -166,7 +167,7 @@ enter-returns-3 t c =
     let a = start .args in
     let p = start .pre .1 in
     let child = entered-region t joined in
-    child-past (a .pool .now) (a .cells) (a .range .now) (a .below) (a .link) (p .leads) _ (p .ready .counted) (one .if1 .left)
+    child-past (a .pool .now) (a .cells) (a .range .now) _ (a .below) (a .link) (p .leads) _ (p .ready .counted) (one .if1 .left)
     (subst (λ (r : Region). meets r (a .range .now) ≡ true) (child .same) (child .meeting)) (read .wide .ensures .0) (c .if4 .taken)
 
 enter-sub-visit : (t : ℕ) → enter-lts.Need-sub-visit (enter-calls t) (enter-at t) enter.Post
@@ -206,7 +207,7 @@ enter-returns-4 t c =
     let a = start .args in
     let p = start .pre .1 in
     let child = entered-region t joined in
-    child-visited (a .pool .now) (a .cells) (a .range .now) (a .below) (a .link) (p .leads) _ (p .ready .counted) (one .if1 .left)
+    child-visited (a .pool .now) (a .cells) (a .range .now) _ (a .below) (a .link) (p .leads) _ (p .ready .counted) (one .if1 .left)
     (subst (λ (r : Region). meets r (a .range .now) ≡ true) (child .same) (child .meeting)) (read .wide .ensures .0) (four .if4 .left)
     (child .same) (c .visit .ensures)
 
@@ -220,7 +221,7 @@ visit-returns : (t : ℕ) → visit-lts.Need-returns (visit-calls t) (visit-at t
 visit-returns t c =
     let tested = c .before in
     let a = tested .before .before .before .before .args in
-    visit-cut (a .pool .now) (a .cells) (a .range .now) (a .below) (a .link) (a .k) (a .region) (a .hits .now) (a .counters .now)
+    visit-cut (a .pool .now) (a .cells) (a .range .now) _ (a .below) (a .link) (a .k) (a .region) (a .hits .now) (a .counters .now)
     (tested .test .ensures) (not-true _ (c .if1 .taken))
 
 -- what `enter` goes by, from what the visit goes by and the memory that the step before left
@@ -244,7 +245,7 @@ left-subtree : (t : ℕ) (c : visit-lts.Joined2 (visit-calls t) (visit-at t) vis
     let a = tested .before .before .before .before .args in
     let exit = tested .test .last .1 .1 .1 .1 .1 .1 in
     Encodes (a .cells) true (c .if2 .hits) (c .if2 .counters)
-    (subtree (a .pool .now) (a .cells) (a .range .now) (a .below) (a .k) Left (a .region) (exit .0) (exit .1 .0))
+    (subtree (a .pool .now) (a .cells) (a .range .now) (inRange (a .range .now)) (a .below) (a .k) Left (a .region) (exit .0) (exit .1 .0))
 left-subtree t c =
     let linked = c .before .before in
     let tested = linked .before .before in
@@ -255,11 +256,11 @@ left-subtree t c =
     ⊎-elim
     (λ w.
     encodes-as
-    (subtree-entered (a .pool .now) (a .cells) (a .range .now) (a .below) (a .k) Left (a .region) (exit .0) (exit .1 .0) (p .in-levels)
+    (subtree-entered (a .pool .now) (a .cells) (a .range .now) _ (a .below) (a .k) Left (a .region) (exit .0) (exit .1 .0) (p .in-levels)
     (linked .link-place .ensures .0) (w .3 .ensures)) (not-false _ (w .4 .left)) (w .5) (w .6))
     (λ w.
     encodes-as
-    (subtree-blank (a .pool .now) (a .cells) (a .range .now) (a .below) (a .k) Left (a .region) (exit .0) (exit .1 .0)
+    (subtree-blank (a .pool .now) (a .cells) (a .range .now) _ (a .below) (a .k) Left (a .region) (exit .0) (exit .1 .0)
     (linked .link-place .ensures .0) (w .0 .left) (tested .test .ensures .counted)) refl (w .1) (w .2))
     (c .if2 .came)
 
@@ -290,9 +291,9 @@ visit-returns-2 t c =
     let a = start .args in
     let p = start .pre .1 in
     let exit = tested .test .last .1 .1 .1 .1 .1 .1 in
-    visit-left-cut (a .pool .now) (a .cells) (a .range .now) (a .below) (a .link) (a .k) (a .region) (a .hits .now) (a .counters .now)
+    visit-left-cut (a .pool .now) (a .cells) (a .range .now) _ (a .below) (a .link) (a .k) (a .region) (a .hits .now) (a .counters .now)
     (tested .test .ensures) (not-false _ (one .if1 .left))
-    (subtree-entered (a .pool .now) (a .cells) (a .range .now) (a .below) (a .k) Left (a .region) (exit .0) (exit .1 .0) (p .in-levels)
+    (subtree-entered (a .pool .now) (a .cells) (a .range .now) _ (a .below) (a .k) Left (a .region) (exit .0) (exit .1 .0) (p .in-levels)
     (linked .link-place .ensures .0) (left .enter .ensures)) (not-true _ (c .if3 .taken))
 
 visit-link-place-requires-2 : (t : ℕ) → visit-lts.Need-link-place-requires-2 (visit-calls t) (visit-at t) visit.Post
@@ -311,9 +312,9 @@ visit-returns-3 t c =
     let one = joined .before .before .before in
     let tested = one .before in
     let a = tested .before .before .before .before .args in
-    visit-whole (a .pool .now) (a .cells) (a .range .now) (a .below) (a .link) (a .k) (a .region) (a .hits .now) (a .counters .now)
+    visit-whole (a .pool .now) (a .cells) (a .range .now) _ (a .below) (a .link) (a .k) (a .region) (a .hits .now) (a .counters .now)
     (tested .test .ensures) (not-false _ (one .if1 .left)) (left-subtree t joined) refl
-    (subtree-blank (a .pool .now) (a .cells) (a .range .now) (a .below) (a .k) Right (a .region) (joined .if2 .hits) (joined .if2 .counters)
+    (subtree-blank (a .pool .now) (a .cells) (a .range .now) _ (a .below) (a .k) Right (a .region) (joined .if2 .hits) (joined .if2 .counters)
     (linked .link-place2 .ensures .0) (c .if4 .taken) (left-subtree t joined .counted))
 
 visit-enter-requires-2 : (t : ℕ) → visit-lts.Need-enter-requires-2 (visit-calls t) (visit-at t) visit.Post
@@ -333,9 +334,9 @@ visit-returns-4 t c =
     let start = tested .before .before .before .before in
     let a = start .args in
     let p = start .pre .1 in
-    visit-whole (a .pool .now) (a .cells) (a .range .now) (a .below) (a .link) (a .k) (a .region) (a .hits .now) (a .counters .now)
+    visit-whole (a .pool .now) (a .cells) (a .range .now) _ (a .below) (a .link) (a .k) (a .region) (a .hits .now) (a .counters .now)
     (tested .test .ensures) (not-false _ (one .if1 .left)) (left-subtree t joined) refl
-    (subtree-entered (a .pool .now) (a .cells) (a .range .now) (a .below) (a .k) Right (a .region) (joined .if2 .hits) (joined .if2 .counters)
+    (subtree-entered (a .pool .now) (a .cells) (a .range .now) _ (a .below) (a .k) Right (a .region) (joined .if2 .hits) (joined .if2 .counters)
     (p .in-levels) (linked .link-place2 .ensures .0) (c .enter2 .ensures))
 
 pub +enter+visit-spec : {M : Type 1} → statement M

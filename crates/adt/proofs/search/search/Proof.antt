@@ -14,7 +14,7 @@ shared-slice-read-if1 : tie.Need-shared-slice-read-if1
 shared-slice-read-if1 c = search needs
 
 returns : tie.Need-returns
-returns c = search-blank _ (c .before .before .before .pre .0) _ refl (c .if1 .taken)
+returns c = search-blank _ _ (c .before .before .before .pre .0) _ refl (c .if1 .taken)
 
 root-region-requires : tie.Need-root-region-requires
 root-region-requires c κs = search needs
@@ -29,7 +29,7 @@ returns-2 c =
     let start = rooted .before .before .before .before in
     let root = ap (λ (g : Region). meets g (start .args .range .now)) (sym (rooted .root-region .ensures)) in
     let m = root ∙ sym (asked .meets-range .ensures) ∙ not-true _ (c .if2 .taken) in
-    search-apart _ (start .pre .0) _ refl (rooted .before .if1 .left) m
+    search-apart _ _ (start .pre .0) _ refl (rooted .before .if1 .left) m
 
 add-enter : tie.Need-add-enter
 add-enter c = search needs
@@ -42,7 +42,7 @@ enter-requires c κs =
     let start = rooted .before .before .before .before in
     let p = start .pre .0 in
     record {
-      ready = record { few = p .few; long = p .long; counted = fresh-counted (start .args .range .now) p };
+      ready = record { few = p .few; long = p .long; counted = fresh-counted p };
       at = omega (arith, p .long);
       leads = rooted .before .if1 .left;
       in-levels = lit≤ tt;
@@ -54,7 +54,7 @@ enter-requires c κs =
 returns-3 : tie.Need-returns-3
 returns-3 c =
     let rooted = c .before .before .before .before .before .before in
-    search-entered _ (rooted .before .before .before .before .pre .0) (rooted .root-region .ensures) (c .enter .ensures)
+    search-entered _ _ (rooted .before .before .before .before .pre .0) (rooted .root-region .ensures) (c .enter .ensures)
 
 pub search-spec : {M : Type 1} → statement M
 search-spec =

@@ -18,7 +18,7 @@ returns c =
     let start = c .before .before .before .before in
     let a = start .args in
     let here : Spot = record { level = a .level; link = a .link } in
-    test-full (a .pool .now) (a .cells) (a .range .now) here (a .k) (a .hits .now) (start .pre .ready .few)
+    test-full (a .pool .now) (a .cells) (a .range .now) _ here (a .k) (a .hits .now) (start .pre .ready .few)
     (a .counters .now) (start .pre .ready .counted) (c .if1 .taken)
 
 add-counters : tie.Need-add-counters
@@ -37,7 +37,7 @@ returns-2 c =
     let a = start .args in
     let here : Spot = record { level = a .level; link = a .link } in
     let outside = sym (c .before .is-hit .ensures) ∙ sym (Bool·not-not _) ∙ ap not (c .if2 .taken) in
-    test-outside (a .pool .now) (a .cells) (a .range .now) here (a .k) (a .hits .now) (start .pre .ready .few)
+    test-outside (a .pool .now) (a .cells) (a .range .now) _ here (a .k) (a .hits .now) (start .pre .ready .few)
     _ (one .if1 .left) (a .counters .now) (start .pre .ready .counted) refl outside
 
 add-counters-2 : tie.Need-add-counters-2
@@ -63,7 +63,7 @@ returns-3 c =
     let a = start .args in
     let here : Spot = record { level = a .level; link = a .link } in
     let hit = sym (tested .is-hit .ensures) ∙ sym (Bool·not-not _) ∙ ap not (c .before .if2 .left) in
-    test-later (a .pool .now) (a .cells) (a .range .now) here (a .k) (a .hits .now) (start .pre .ready .few)
+    test-later (a .pool .now) (a .cells) (a .range .now) _ here (a .k) (a .hits .now) (start .pre .ready .few)
     _ (one .if1 .left) _ hit (a .counters .now) (start .pre .ready .counted) refl refl (c .if3 .taken)
 
 element-write-counters-3 : tie.Need-element-write-counters-3
@@ -80,7 +80,7 @@ returns-4 c =
     let a = start .args in
     let here : Spot = record { level = a .level; link = a .link } in
     let hit = sym (tested .is-hit .ensures) ∙ sym (Bool·not-not _) ∙ ap not (c .before .if2 .left) in
-    test-first (a .pool .now) (a .cells) (a .range .now) here (a .k) (a .hits .now) (start .pre .ready .few)
+    test-first (a .pool .now) (a .cells) (a .range .now) _ here (a .k) (a .hits .now) (start .pre .ready .few)
     _ (one .if1 .left) _ hit (a .counters .now) (start .pre .ready .counted) refl refl (c .if3 .left)
 
 pub test-spec : {M : Type 1} → statement M

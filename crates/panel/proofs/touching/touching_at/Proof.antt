@@ -6,6 +6,7 @@ use Rattle.model.proofs.QuarterLaws.{coverable-below}
 use Rattle.geometry.specs.SearchRange.{OneSided}
 use Rattle.geometry.proofs.SearchRangeLaws.{box-one-sided}
 use Rattle.calls.proofs.RefusalSteps.{pool-taken}
+use Rattle.adt.specs.Search.{inRange}
 use Rattle.steps.proofs.HitsLaws.{found-hits}
 use Rattle.panel.proofs.TouchingSteps.{touching-bad, touching-late, touching-broken, touching-done}
 use borrow.Author.Needs.{needs}
@@ -64,7 +65,7 @@ returns-3 c =
 sorted-placed-requires : tie.Need-sorted-placed-requires
 sorted-placed-requires c κs =
     let found = c .before .before in
-    found-hits _ refl _ (found .before .before .find-hits .ensures) (found .found .given .1) .cells
+    found-hits _ inRange refl _ (found .before .before .find-hits .ensures) (found .found .given .1) .cells
 
 returns-4 : tie.Need-returns-4
 returns-4 c =

@@ -2,6 +2,7 @@
 use Rattle.lists.proofs.TestLaws.{not-passed, not-failed}
 use Rattle.model.proofs.QuarterLaws.{coverable-below}
 use Rattle.calls.proofs.RefusalSteps.{pool-taken}
+use Rattle.adt.specs.Search.{inRange}
 use Rattle.steps.proofs.HitsLaws.{found-hits}
 use Rattle.queries.proofs.DecideSteps.{decide-bad, decide-late, decide-broken, decide-done}
 use mathlib.Core.Path.{refl, sym, subst}
@@ -64,7 +65,7 @@ returns-3 c =
 decide-among-requires : tie.Need-decide-among-requires
 decide-among-requires c κs =
     let found = c .before .before in
-    found-hits _ refl _ (found .before .before .find-hits .ensures) (found .found .given .1) .cells
+    found-hits _ inRange refl _ (found .before .before .find-hits .ensures) (found .found .given .1) .cells
 
 returns-4 : tie.Need-returns-4
 returns-4 c =

@@ -1,6 +1,7 @@
 -- `list::list` meets its contract, test by test. Assumes nothing.
 use Rattle.model.proofs.QuarterLaws.{forward-quarters}
 use Rattle.calls.proofs.RefusalSteps.{pool-taken}
+use Rattle.adt.specs.Search.{inRange}
 use Rattle.steps.proofs.HitsLaws.{found-hits, cells-part}
 use Rattle.queries.proofs.ListSteps.{list-bad, list-reversed, list-broken, list-short, list-done}
 use mathlib.Core.Path.{refl, sym, subst, _∙_}
@@ -72,7 +73,7 @@ slice-aggregate-write-numbers c = sym (length-take-le _ _ (c .before .before .if
 write-numbers-requires : tie.Need-write-numbers-requires
 write-numbers-requires c κs =
     let found = c .before .before .before .before in
-    let cells = found-hits _ refl _ (found .before .before .find-hits .ensures) (found .found .given .1) .cells in
+    let cells = found-hits _ inRange refl _ (found .before .before .find-hits .ensures) (found .found .given .1) .cells in
     cells-part cells _ (c .before .before .if3 .left)
 
 same-length : tie.Need-same-length

@@ -11,7 +11,7 @@ search-requires c κs = search needs
 returns : tie.Need-returns
 returns c =
     let at = c .before .before .before .before .before in
-    hits-broken (at .args .pool .now) _ (at .args .range .now) (at .pre .sized) (c .before .search .ensures) (not-true _ (c .if1 .taken))
+    hits-broken (at .args .pool .now) _ (at .args .range .now) _ (at .pre .sized) (c .before .search .ensures) (not-true _ (c .if1 .taken))
 
 array-read-t12 : tie.Need-array-read-t12
 array-read-t12 c = search needs
@@ -19,7 +19,7 @@ array-read-t12 c = search needs
 returns-2 : tie.Need-returns-2
 returns-2 c =
     let at = c .before .before .before .before .before in
-    hits-found (at .args .pool .now) _ (at .args .range .now) (at .pre .sized) (c .before .search .ensures) (not-false _ (c .if1 .left))
+    hits-found (at .args .pool .now) _ (at .args .range .now) _ (at .pre .sized) (c .before .search .ensures) (not-false _ (c .if1 .left))
 
 pub find-hits-spec : {M : Type 1} → statement M
 find-hits-spec = tie.close (tie.spec search-requires returns array-read-t12 returns-2)
