@@ -1,11 +1,12 @@
-/* The grant index for C: each call is the proved entry point of its name (document 01, "The plain book", "The grants file" and "Faults";
- * document 02, "Door record against panel record").
+/* The grant index for C: each call is the proved entry point of its name, lg_list and lg_list_holding are list's under its two choices
+ * (document 01, "The plain book", "The grants file" and "Faults"; document 02, "Show grants that cover the entire shift" and "Door record
+ * against panel record").
  *
  * Link with libc_api.a.
  *
- * Ranges of quarters are half-open, in grants and in the boxes of lg_list: quarter_from is covered, quarter_to is not. Of staff and of
- * doors, both ends belong to the range. The last quarter that a grant can cover is 65534. A pool has no mark: one that an earlier library
- * made has closed quarters, and nothing tells; make it anew.
+ * Ranges of quarters are half-open, in grants and in the boxes of lg_list and lg_list_holding: quarter_from is covered, quarter_to is not.
+ * Of staff and of doors, both ends belong to the range. The last quarter that a grant can cover is 65534. A pool has no mark: one that an
+ * earlier library made has closed quarters, and nothing tells; make it anew.
  *
  * A pool is `pool_words` words and nothing outside them. A file is `file_bytes` bytes. A record of openings is `door_bytes` or
  * `panel_bytes` bytes: entries of 8 bytes. Lengths are in elements. Each pointer must be valid for its length and aligned for its type,
@@ -13,13 +14,13 @@
  * made is refused (1, 9) or answered, and never followed outside its words.
  *
  * Threads: no call keeps state or takes a lock. Calls on memory of their own may run side by side. Calls that leave a pool as it was
- * (lg_list, lg_decide, lg_count, lg_write, lg_match) may share it. A call that changes it (lg_start, lg_grant, lg_revoke, lg_load) needs
- * it alone: two at once can lose a grant that both accepted, and break the links. No call changes a file that it is given, or a record
- * of openings: calls may share them.
+ * (lg_list, lg_list_holding, lg_decide, lg_count, lg_write, lg_match) may share it. A call that changes it (lg_start, lg_grant, lg_revoke,
+ * lg_load) needs it alone: two at once can lose a grant that both accepted, and break the links. No call changes a file that it is given,
+ * or a record of openings: calls may share them.
  *
  * Stack: no call allocates. A call needs at most LG_STACK_BYTES beside what its caller has on the stack, on any pool, file and record;
- * measured on x86-64 with the archive that `rt staticlib c_api` makes (tests/stack): lg_list 28,900 bytes, lg_write and lg_match 25,600,
- * lg_compare_openings 26,300, lg_grant, lg_revoke, lg_decide and lg_count 20,900, the others 1,400.
+ * measured on x86-64 with the archive that `rt staticlib c_api` makes (tests/stack): lg_list and lg_list_holding 31,000 bytes, lg_write and
+ * lg_match 26,700, lg_compare_openings 26,300, lg_grant, lg_revoke, lg_decide and lg_count 22,800, the others 1,400.
  *
  * Every call returns one word:
  *
@@ -84,14 +85,23 @@ uint64_t lg_grant(uint16_t *pool, size_t pool_words, uint16_t number, uint8_t ra
  * Refuses 1, 3, 9 and 7, in this order. Leaves: the pool without the grant. */
 uint64_t lg_revoke(uint16_t *pool, size_t pool_words, uint16_t number);
 
-/* The numbers of the live grants whose boxes overlap a box, ascending, from the start of the list. A grant that ends when the box begins,
- * or begins when it ends, is not among them.
+/* The numbers of the live grants that touch a box, ascending, from the start of the list. A grant touches a box when it covers one of its
+ * staff numbers, one of its doors and one of its quarters. A grant that ends when the box begins, or begins when it ends, does not. Grants
+ * that hold the box touch it too.
  * Accepted: a = how many were written. Refuses 1, 2, 9 and 8 (a = count needed), in this order.
  * Leaves: the numbers in the list; elements past them, and the pool, stay. */
 uint64_t lg_list(const uint16_t *pool, size_t pool_words, uint16_t staff_from, uint16_t staff_to, uint16_t door_from,
                  uint16_t door_to, uint16_t quarter_from, uint16_t quarter_to, uint16_t *list, size_t list_words);
 
-/* What decides at a point: the live grant of the highest rank that holds it, at equal rank the one of the highest number. Quarter
+/* The same for the live grants that hold a box. A grant holds a box when it covers all of its staff numbers, all of its doors and all of
+ * its quarters: the box lies inside it, and may end where it ends.
+ * Accepted: a = how many were written. Refuses 1, 2, 9 and 8 (a = count needed), in this order; 1, 2 and 9 exactly where lg_list does. The
+ * list needs no room for grants that only touch the box.
+ * Leaves: the numbers in the list; elements past them, and the pool, stay. */
+uint64_t lg_list_holding(const uint16_t *pool, size_t pool_words, uint16_t staff_from, uint16_t staff_to, uint16_t door_from,
+                         uint16_t door_to, uint16_t quarter_from, uint16_t quarter_to, uint16_t *list, size_t list_words);
+
+/* What decides at a point: the live grant of the highest rank that holds it, at equal rank the one of the highest number.
  * No grant covers quarter 65535: there the answer is none on every pool, no link is followed, and 9 does not come.
  * Accepted: a = 0 none, 1 opens, 2 barred. Refuses 1 and 9, in this order.
  * Leaves: with 1 and 2, out = number, rank, kind, staff from, staff to, door from, door to, quarter from, quarter to, 0; otherwise

@@ -38,6 +38,18 @@ class Bounds(collections.namedtuple("Bounds", "staff_from staff_to door_from doo
     __slots__ = ()
 
 
+class Choice(enum.Enum):
+    """Which grants of a box list takes.
+
+    TOUCHING: those that touch the box: they cover one of its staff numbers, one of its doors and one of its quarters. Those that hold it
+              are among them.
+    HOLDING:  those that hold the box: they cover all of its staff numbers, doors and quarters.
+    """
+
+    TOUCHING = "touching"
+    HOLDING = "holding"
+
+
 class Opening(collections.namedtuple("Opening", "door quarter staff")):
     """An entry of a door record or a panel record."""
 
@@ -133,6 +145,7 @@ _ARGUMENTS = {
     "grant": _POOL + [ctypes.c_uint16, ctypes.c_uint8, ctypes.c_uint8] + _BOX,
     "revoke": _POOL + [ctypes.c_uint16],
     "list": _POOL + _BOX + _MEMORY,
+    "list_holding": _POOL + _BOX + _MEMORY,
     "decide": _POOL + [ctypes.c_uint16] * 3 + [ctypes.c_void_p],
     "count": _POOL,
     "write": _POOL + [ctypes.c_uint16] * 2 + _MEMORY,
@@ -217,12 +230,16 @@ def revoke(pool, number):
     _unpack(_lg.lg_revoke(address, length, number))
 
 
-def list_into(pool, bounds, numbers):
-    """Writes the numbers of the live grants that overlap a box, ascending, from the start of `numbers`, and returns how many;
-    elements past them stay. Refuses 1, 2, 9 and 8, in this order."""
+def list_into(pool, bounds, choice, numbers):
+    """Writes the numbers of the live grants that touch a box, or of those that hold it, ascending, from the start of `numbers`, and
+    returns how many; elements past them stay. choice: a `Choice`. Refuses 1, 2, 9 and 8, in this order; the choice makes no difference to
+    1, 2 and 9."""
     fields = _box(bounds)
+    if not isinstance(choice, Choice):
+        raise ValueError("%r is not a Choice" % (choice,))
     (address, length, _held), (list_address, list_length, _lent) = _apart(_words(pool), _words(numbers))
-    return _unpack(_lg.lg_list(address, length, *fields, list_address, list_length))[0]
+    function = _lg.lg_list if choice is Choice.TOUCHING else _lg.lg_list_holding
+    return _unpack(function(address, length, *fields, list_address, list_length))[0]
 
 
 def decide(pool, staff, door, quarter):
@@ -323,11 +340,11 @@ class Index:
         with self._alone:
             revoke(self.pool, number)
 
-    def list(self, bounds):
-        """The numbers of the live grants that overlap a box, ascending."""
+    def list(self, bounds, choice):
+        """The numbers of the live grants that touch a box, or of those that hold it, ascending; choice: a `Choice`."""
         with self._alone:
             numbers = array.array("H", bytes(2 * count(self.pool).live))
-            return numbers[: list_into(self.pool, bounds, numbers)].tolist()
+            return numbers[: list_into(self.pool, bounds, choice, numbers)].tolist()
 
     def decide(self, staff, door, quarter):
         with self._alone:

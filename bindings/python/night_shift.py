@@ -25,7 +25,9 @@ print("a file of %d bytes, its records in %d of them" % (len(cut), len(cut[lg.bl
 
 bank = lg.Index(64)
 bank.load(cut)
-print("the bank's grants:", bank.list((0, 65535, 1, 20, *NIGHT)))
+print("the bank's grants:", bank.list((0, 65535, 1, 20, *NIGHT), lg.Choice.TOUCHING))
+# A roster asks for the grants that cover all of a shift: all its staff, doors and quarters.
+print("for all of the shift of staff 100 to 199:", bank.list((100, 199, 1, 20, *NIGHT), lg.Choice.HOLDING))
 for staff in (120, 150, 195, 200):
     grant = bank.decide(staff, 12, 90)
     if grant is None:

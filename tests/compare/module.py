@@ -1,6 +1,7 @@
 #!/usr/bin/env python3
 """What the Python module adds to the calls: threads that share an index, its copies, what it refuses before the library is asked, the
-names of a box's ends, and openings by their fields; its comparisons of records are held against the plain scan.
+names of a box's ends, list's choice, and openings by their fields; its lists and its comparisons of records are held against the plain
+scan.
 
     module.py      says what is not as it should be
 """
@@ -26,6 +27,7 @@ EVERYTHING = (0, lg.WORD) * 3
 THREADS = 4
 GRANTS = 40
 PAIRS = 500
+INDEXES = 200
 
 
 def check(holds, what):
@@ -64,7 +66,8 @@ def at_work(index, thread, accepted, refused):
     """One thread's grants, each followed by a question of another kind; notes each grant that was accepted."""
     questions = (
         index.count,
-        lambda: index.list(EVERYTHING),
+        lambda: index.list(EVERYTHING, lg.Choice.TOUCHING),
+        lambda: index.list(EVERYTHING, lg.Choice.HOLDING),
         lambda: index.decide(thread, thread, thread),
         lambda: index.match(index.write(0, lg.WORD)),
         lambda: copy.copy(index).count(),
@@ -93,7 +96,8 @@ def try_threads():
     for thread in threads:
         thread.join()
     drawn, lg._lg = lg._lg, library
-    check(index.list(EVERYTHING) == sorted(accepted), "threads that share an index: %d grants were accepted, %d are live" % (len(accepted), index.count().live))
+    live = index.list(EVERYTHING, lg.Choice.TOUCHING)
+    check(live == sorted(accepted), "threads that share an index: %d grants were accepted, %d are live" % (len(accepted), len(live)))
     check(not refused, "%d calls of threads that share an index were refused; the first: %s" % (len(refused), (refused or [""])[0]))
     check(drawn.disturbed == 0, "%d calls were at work on a pool while another changed it" % drawn.disturbed)
     return len(accepted)
@@ -104,9 +108,9 @@ def try_copies():
     index = lg.Index(2)
     index.grant(1, 200, lg.OPENS, EVERYTHING)
     for other in (copy.copy(index), copy.deepcopy(index), pickle.loads(pickle.dumps(index))):
-        check(other.list(EVERYTHING) == [1], "a copy has other grants")
+        check(other.list(EVERYTHING, lg.Choice.TOUCHING) == [1], "a copy has other grants")
         other.grant(2, 200, lg.OPENS, EVERYTHING)
-        check(index.list(EVERYTHING) == [1], "a copy's grant is in the index that it was copied from")
+        check(index.list(EVERYTHING, lg.Choice.TOUCHING) == [1], "a copy's grant is in the index that it was copied from")
 
 
 def says(act, *parts):
@@ -126,9 +130,10 @@ def try_memory():
     pool = lg.Index(1).pool
     says(lambda: lg.start(odd), "even address", "%#x" % address_of(odd))
     says(lambda: lg.grant(odd, 1, 200, lg.OPENS, EVERYTHING), "even address")
-    says(lambda: lg.list_into(pool, EVERYTHING, odd), "even address")
+    for choice in lg.Choice:
+        says(lambda: lg.list_into(pool, EVERYTHING, choice, odd), "even address")
+        check(lg.list_into(pool, EVERYTHING, choice, odd[:0]) == 0, "no room at an odd address is not enough for no hits")
     check(set(memory) == {0xA5}, "memory at an odd address was changed")
-    check(lg.list_into(pool, EVERYTHING, odd[:0]) == 0, "no room at an odd address is not enough for no hits")
 
 
 def address_of(view):
@@ -156,7 +161,8 @@ def try_quarters():
             check(decided == right, "%s is right at quarter %d, the module answers %s" % (right, quarter, decided))
     for start, stop in ((0, 0), (88, 88), (lg.WORD, lg.WORD), (89, 88)):
         empty = everything._replace(quarter_from=start, quarter_until=stop)
-        for act in (lambda: lg.Index(1).grant(1, 200, lg.OPENS, empty), lambda: lg.Index(1).list(empty)):
+        lists = [lambda choice=choice: lg.Index(1).list(empty, choice) for choice in lg.Choice]
+        for act in (lambda: lg.Index(1).grant(1, 200, lg.OPENS, empty), *lists):
             why = refusal(act)
             check(why.fault == lg.Fault.Reversed and "cover nothing" in str(why), "quarters %d to %d: %s" % (start, stop, why))
 
@@ -168,6 +174,55 @@ def refusal(act):
     except lg.Refused as why:
         return why
     check(False, "not refused")
+
+
+def try_choices():
+    """List takes a Choice and nothing that looks like one; it lists the grants that hold a box, or those that touch it too."""
+    index = lg.Index(3)
+    index.grant(1, 200, lg.OPENS, EVERYTHING)
+    index.grant(2, 200, lg.OPENS, (5, 9, 5, 9, 5, 9))
+    index.grant(3, 200, lg.OPENS, (9, 9, 9, 9, 9, 10))
+    for choice in ("holding", "HOLDING", 0, 1, None, book.Choice.HOLDING, lg.Choice):
+        says(lambda: index.list(EVERYTHING, choice), "not a Choice", repr(choice))
+    listed = {choice: index.list((5, 9, 5, 9, 5, 9), choice) for choice in lg.Choice}
+    check(listed == {lg.Choice.TOUCHING: [1, 2], lg.Choice.HOLDING: [1, 2]}, "the lists of a grant's own box: %s" % listed)
+    listed = {choice: index.list((5, 9, 5, 9, 5, 10), choice) for choice in lg.Choice}
+    check(listed == {lg.Choice.TOUCHING: [1, 2, 3], lg.Choice.HOLDING: [1]}, "the lists of a box that is a quarter longer: %s" % listed)
+
+
+def any_box(drawn):
+    """A box of few values, whose staff and doors are in order and whose quarters cover one at least."""
+    staff, doors, quarters = (sorted(drawn.choice((0, 1, 2, 3, 4, lg.WORD)) for _ in range(2)) for _ in range(3))
+    if quarters[0] == quarters[1]:
+        quarters = [0, lg.WORD]
+    return (*staff, *doors, *quarters)
+
+
+def one_off(drawn, box):
+    """The box with an end moved by one."""
+    end = drawn.randrange(6)
+    return tuple(min(lg.WORD, max(0, value + drawn.choice((-1, 1)))) if i == end else value for i, value in enumerate(box))
+
+
+def try_lists():
+    """Lists under either choice are the plain scan's, of any boxes, of those of grants and of those that are one off at an end."""
+    drawn = random.Random(1)
+    seen = set()
+    for _ in range(INDEXES):
+        index, plain = lg.Index(8), book.Book(8)
+        boxes = [any_box(drawn) for _ in range(8)]
+        for number, box in enumerate(boxes, 1):
+            index.grant(number, 200, lg.OPENS, box)
+            plain.grant(book.Grant(number, 200, lg.OPENS, *box))
+        for box in boxes + [one_off(drawn, box) for box in boxes] + [any_box(drawn)]:
+            both = []
+            for choice in lg.Choice:
+                right = outcome(plain.list, book.Refused, book.box_of(box), book.Choice[choice.name], 8)
+                ours = outcome(index.list, lg.Refused, box, choice)
+                check(ours == right, "%s is right, the module answers %s to %s of %s among %s" % (right, ours, choice, box, boxes))
+                both.append(right)
+            seen.add("refused" if both[0] == lg.Fault.Reversed else len(both[0]) - len(both[1]) > 0)
+    check(seen == {"refused", False, True}, "the lists compared have only these outcomes: %s" % seen)
 
 
 def try_entries():
@@ -197,10 +252,10 @@ def any_record(drawn):
     return record + bytes(drawn.choice((0, 0, 0, 0, 0, 0, 0, drawn.randrange(8))))
 
 
-def outcome(compare, refused, door, panel):
-    """What a comparison answers: three numbers, or a fault's number."""
+def outcome(act, refused, *arguments):
+    """The numbers that an act answers, or a fault's number."""
     try:
-        return tuple(compare(door, panel))
+        return tuple(act(*arguments))
     except refused as why:
         return why.fault
 
@@ -235,11 +290,13 @@ try_copies()
 try_memory()
 try_capacities()
 try_quarters()
+try_choices()
+try_lists()
 try_entries()
 try_openings()
 try_library(os.path.join(ROOT, "no", "liblg.so"))
 try_library(os.path.abspath(__file__))
 print(
-    "compare: threads that share a Python index keep all of %d grants; the module refuses what can't be lent; %d pairs of records as"
-    " the plain scan has them" % (try_threads(), PAIRS)
+    "compare: threads that share a Python index keep all of %d grants; the module refuses what can't be lent; the lists of %d indexes and"
+    " %d pairs of records as the plain scan has them" % (try_threads(), INDEXES, PAIRS)
 )

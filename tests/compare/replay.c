@@ -149,14 +149,27 @@ static uint64_t call_revoke(struct replay *r)
     return lg_revoke(pool(r), pool_words(r), (uint16_t)number(r));
 }
 
-static uint64_t call_list(struct replay *r)
+typedef uint64_t list_function(const uint16_t *pool, size_t pool_words, uint16_t staff_from, uint16_t staff_to, uint16_t door_from,
+                               uint16_t door_to, uint16_t quarter_from, uint16_t quarter_to, uint16_t *list, size_t list_words);
+
+static uint64_t list_by(struct replay *r, list_function *function)
 {
     uint16_t f[6];
     for (int i = 0; i < 6; i++)
         f[i] = (uint16_t)number(r);
     size_t length = number(r);
     uint16_t *list = lend_words(r, length);
-    return lg_list(pool(r), pool_words(r), f[0], f[1], f[2], f[3], f[4], f[5], list, length);
+    return function(pool(r), pool_words(r), f[0], f[1], f[2], f[3], f[4], f[5], list, length);
+}
+
+static uint64_t call_list(struct replay *r)
+{
+    return list_by(r, lg_list);
+}
+
+static uint64_t call_list_holding(struct replay *r)
+{
+    return list_by(r, lg_list_holding);
 }
 
 static uint64_t call_decide(struct replay *r)
@@ -232,7 +245,7 @@ static const struct {
     const char *name;
     uint64_t (*call)(struct replay *);
 } calls[] = {
-    {"start", call_start}, {"grant", call_grant}, {"revoke", call_revoke}, {"list", call_list},
+    {"start", call_start}, {"grant", call_grant}, {"revoke", call_revoke}, {"list", call_list}, {"list_holding", call_list_holding},
     {"decide", call_decide}, {"count", call_count}, {"write", call_write}, {"load", call_load},
     {"match", call_match}, {"block", call_block}, {"part", call_part}, {"openings", call_openings},
 };

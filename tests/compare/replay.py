@@ -48,13 +48,21 @@ def grant(pool, *fields):
     return 0, 0, Guarded("H", [])
 
 
-def listed(pool, *fields):
+def listed(choice, pool, *fields):
     lent = Guarded("H", pattern(fields[6]))
     try:
-        return lg.list_into(pool, fields[:6], lent.view), 0, lent
+        return lg.list_into(pool, fields[:6], choice, lent.view), 0, lent
     except lg.Refused as refused:
         refused.lent = lent
         raise
+
+
+def touching(pool, *fields):
+    return listed(lg.Choice.TOUCHING, pool, *fields)
+
+
+def holding(pool, *fields):
+    return listed(lg.Choice.HOLDING, pool, *fields)
 
 
 def decide(pool, *point):
@@ -98,7 +106,7 @@ def compared(door, panel):
 
 def make(pool, name, fields):
     """The values a and b of a call, and the memory lent to it."""
-    calls = {"grant": grant, "list": listed, "decide": decide, "write": written}
+    calls = {"grant": grant, "list": touching, "list_holding": holding, "decide": decide, "write": written}
     if name in calls:
         return calls[name](pool, *map(int, fields))
     nothing = Guarded("H", [])

@@ -1,6 +1,8 @@
 """The plain book of document 01, with the cards of document 02 that have landed: the live grants in a plain list, every question a scan
 of it. It shares nothing with the product."""
 
+import enum
+
 CAPACITY = 2048
 
 
@@ -30,6 +32,43 @@ def share_time(a, b):
 
 def overlap(a, b):
     return share(a[0], b[0]) and share(a[1], b[1]) and share_time(a[2], b[2])
+
+
+def values(box):
+    """The staff numbers, the doors and the quarters of a box, each as a range of Python's."""
+    staff, doors, quarters = box
+    return range(staff[0], staff[1] + 1), range(doors[0], doors[1] + 1), range(*quarters)
+
+
+def lies_inside(box, grant_box):
+    """Whether all staff numbers, all doors and all quarters of a box are a grant's: the first and the last of each are."""
+    return all(value in all_of for part, all_of in zip(values(box), values(grant_box)) for value in (*part[:1], *part[-1:]))
+
+
+class Relation(enum.Enum):
+    """What the test of a grant against a box says."""
+
+    APART = enum.auto()
+    TOUCHES = enum.auto()
+    HOLDS = enum.auto()
+
+
+class Choice(enum.Enum):
+    """Which grants list takes."""
+
+    TOUCHING = enum.auto()
+    HOLDING = enum.auto()
+
+
+def relation(grant_box, box):
+    if not overlap(grant_box, box):
+        return Relation.APART
+    return Relation.HOLDS if lies_inside(box, grant_box) else Relation.TOUCHES
+
+
+def takes(choice, said):
+    """Whether list takes a grant of which the test says so; one that holds the box touches it."""
+    return said is Relation.HOLDS or (said is Relation.TOUCHES and choice is Choice.TOUCHING)
 
 
 def covers(box, staff, door, quarter):
@@ -70,8 +109,8 @@ class Book:
     def find(self, number):
         return [g for g in self.live if g.number == number]
 
-    def hits(self, box):
-        return [g for g in self.live if overlap(g.box, box)]
+    def hits(self, box, choice=Choice.TOUCHING):
+        return [g for g in self.live if takes(choice, relation(g.box, box))]
 
     def touching(self, doors):
         return [g for g in self.live if share(g.doors, doors)]
@@ -90,10 +129,10 @@ class Book:
         refuse_if(not self.find(number), 7)
         self.live = [g for g in self.live if g.number != number]
 
-    def list(self, box, room):
-        """The numbers of the grants that overlap a box, into a list with room for so many."""
+    def list(self, box, choice, room):
+        """The numbers of the grants that touch a box, or of those that hold it, into a list with room for so many."""
         refuse_if(is_reversed(box), 2)
-        numbers = [g.number for g in self.hits(box)]
+        numbers = [g.number for g in self.hits(box, choice)]
         refuse_if(len(numbers) > room, 8)
         return numbers
 

@@ -7,7 +7,7 @@ and a line of more than 4,096 bytes is of another form, since no call needs as m
 """
 import sys
 
-from book import Book, Grant, Refused, box_of
+from book import Book, Choice, Grant, Refused, box_of
 
 LENT = 2048
 LONGEST = 4096
@@ -52,7 +52,7 @@ def do(book, letter, values):
         book.revoke(*values)
         return "ok"
     if letter == "L":
-        numbers = book.list(box_of(values), LENT)
+        numbers = book.list(box_of(values), Choice.TOUCHING, LENT)
         return " ".join(["list", str(len(numbers))] + [str(n) for n in numbers])
     if letter == "D":
         g = book.decide(*values)

@@ -1,5 +1,5 @@
 """The panel against the plain book: ask.py PROGRAM SEED. Random grants are cut to a file, and random questions asked of it, with a base day and
-without."""
+without. Which grants hold a whole box is asked here of each grant's values, one by one."""
 import datetime
 import itertools
 import pathlib
@@ -19,6 +19,10 @@ QUARTERS = [*range(11), 65533, 65534, 65535]
 
 program, seed = str(pathlib.Path(sys.argv[1]).resolve()), int(sys.argv[2])
 pick = random.Random(seed)
+# The kinds of `covers` that have been asked, and those that must be.
+reached = set()
+KINDS = {"held", "not held", "a grant's own quarters", "from one earlier", "to one later", "one quarter", "empty", "reversed", "foreign door"}
+KINDS |= {"day and time", "from within a quarter", "to within a quarter"}
 
 
 def span(most):
@@ -92,6 +96,101 @@ def may(book, staff, door, quarter, base):
     yield ""
 
 
+def refusal():
+    yield "refused 2: a range starts above its end, or the quarters end where they start: put the lower number first; " \
+        "the quarter to is the first that isn't covered"
+
+
+def foreign(book, door):
+    touching = len(book.touching(DOORS))
+    grants = "1 grant" if touching == 1 else f"{touching} grants"
+    yield f"door {door} is not of this bank: ask about one of its own"
+    yield f"doors {DOORS[0]} to {DOORS[1]}, {grants}, {len(file_of(DOORS, book))} bytes"
+
+
+def holding(book, staff, door, start, end):
+    """The grants that have the staff number, the door, and both the first and the last of the quarters."""
+    def has(g):
+        quarters = range(*g.quarters)
+        return staff in range(g.staff[0], g.staff[1] + 1) and door in range(g.doors[0], g.doors[1] + 1) and start in quarters and end - 1 in quarters
+
+    return [g for g in book.live if has(g)]
+
+
+def held_rows(rows):
+    if not rows:
+        yield "no grant holds all of it"
+        return
+    yield "  number    rank   staff      to   doors      to quarter   until  does"
+    for i, g in enumerate(rows):
+        if i > 0 and i % 16 == 0:
+            yield "more: press Enter"
+            yield ""
+        yield row([g.number, g.rank, *g.staff, *g.doors, *g.quarters], ("bars", "opens")[g.kind])
+    yield f"{len(rows)} in all"
+    yield "a higher grant may decide otherwise for some of it, so ask may"
+
+
+def covers(book, staff, door, start, end, base):
+    if not DOORS[0] <= door <= DOORS[1]:
+        reached.add("foreign door")
+        yield from foreign(book, door)
+    else:
+        yield f"staff {staff}, door {door}, from {asked_quarter(start, base)} until {asked_quarter(end, base)}"
+        if start < end:
+            rows = holding(book, staff, door, start, end)
+            reached.add("held" if rows else "not held")
+            yield from held_rows(rows)
+        else:
+            yield from refusal()
+    yield ""
+
+
+def near(quarter):
+    """The quarter, or one beside it."""
+    return pick.choice([q for q in (quarter - 1, quarter, quarter, quarter + 1) if 0 <= q <= 65535])
+
+
+def shift_of(g):
+    """A grant's own values, or nearly: which staff number and door, and quarters from and to."""
+    start, end = near(g.quarters[0]), near(g.quarters[1])
+    if (start, end) == g.quarters:
+        reached.add("a grant's own quarters")
+    if start < g.quarters[0]:
+        reached.add("from one earlier")
+    if end > g.quarters[1]:
+        reached.add("to one later")
+    return pick.choice(g.staff), pick.choice(g.doors), start, end
+
+
+def any_shift(book):
+    if book.live and pick.random() < 0.7:
+        return shift_of(pick.choice(book.live))
+    return pick.randrange(14), pick.randrange(10), pick.choice(QUARTERS), pick.choice(QUARTERS)
+
+
+def typed_moments(start, end):
+    """A day and time in the first quarter, and one in the last quarter or at its end."""
+    after, before = pick.choice([0, 0, 1, 14]), pick.choice([0, 0, 1, 14]) if end else 0
+    reached.add("day and time")
+    if after:
+        reached.add("from within a quarter")
+    if before:
+        reached.add("to within a quarter")
+    first, last = (BASE + datetime.timedelta(minutes=m) for m in (15 * start + after, 15 * end - before))
+    return f"{first:%Y-%m-%d %H:%M} {last:%Y-%m-%d %H:%M}"
+
+
+def covers_line(staff, door, start, end, base):
+    """The line that asks it, in numbers or as days and times."""
+    if end <= start:
+        reached.add("empty" if end == start else "reversed")
+    if end == start + 1:
+        reached.add("one quarter")
+    quarters = typed_moments(start, end) if base and pick.random() < 0.5 else f"{start} {end}"
+    return f"covers {staff} {door} {quarters}"
+
+
 def run(words, text=""):
     """What the program prints; it may say nothing on standard error."""
     ran = subprocess.run([program, *words], input=text, capture_output=True, text=True, check=False)
@@ -100,19 +199,25 @@ def run(words, text=""):
     return ran.stdout
 
 
+def one_question(book, base):
+    """A line to type, and the lines that the panel must print."""
+    door, quarter, staff = pick.randrange(DOORS[0], DOORS[1] + 1), pick.choice(QUARTERS), pick.randrange(14)
+    word = pick.choice(("who", "may", "may", "covers"))
+    if word == "who":
+        return f"who {door} {quarter}", list(who(book, door, quarter, base))
+    if word == "may":
+        return f"may {staff} {door} {quarter}", list(may(book, staff, door, quarter, base))
+    box = any_shift(book)
+    return covers_line(*box, base), list(covers(book, *box, base))
+
+
 def questions_and_answers(book, count, base):
-    """Lines to type, and the lines that the panel must print."""
+    """Lines to type, with an empty one for each screenful after the first, and the lines that the panel must print."""
     questions, answers = [], []
     for _ in range(count):
-        door, quarter, staff = pick.randrange(DOORS[0], DOORS[1] + 1), pick.choice(QUARTERS), pick.randrange(14)
-        if pick.random() < 0.4:
-            # an empty line for each screenful after the first
-            shown = list(who(book, door, quarter, base))
-            questions += [f"who {door} {quarter}"] + [""] * shown.count("more: press Enter")
-            answers += shown
-        else:
-            questions.append(f"may {staff} {door} {quarter}")
-            answers += may(book, staff, door, quarter, base)
+        line, shown = one_question(book, base)
+        questions += [line] + [""] * shown.count("more: press Enter")
+        answers += shown
     return questions, answers
 
 
@@ -125,7 +230,7 @@ def first_difference(given, right):
 
 def ask(book, bank, count, base):
     """Asks of the file of so many grants; how many lines were typed."""
-    questions, answers = questions_and_answers(book, 60, base)
+    questions, answers = questions_and_answers(book, 80, base)
     words = ["panel", str(bank)] + (["2026-01-01"] if base else [])
     given = run(words, "".join(q + "\n" for q in questions)).split("\n\n", 1)[1].splitlines()
     difference = first_difference(given, answers)
@@ -153,4 +258,6 @@ asked = 0
 for count in (0, 1, 5, 31, 32, 60):
     with tempfile.TemporaryDirectory() as folder:
         asked += try_grants(count, pathlib.Path(folder))
+if KINDS - reached:
+    sys.exit(f"ask: seed {seed}: no such question was asked: {', '.join(sorted(KINDS - reached))}")
 print(f"ask: {asked} questions as the plain book answers them")

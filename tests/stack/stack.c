@@ -1,6 +1,6 @@
 /* How much stack each call of include/lg.h needs at most: it is made on memory that was painted, and the deepest byte that changed is
- * looked for. The pools are full ones that calls made, one of them as deep as calls can make it, and scrambled ones whose cells hang
- * down to level 112; the lists, files, pools and records of openings have the most that there can be.
+ * looked for. The pools are full ones that calls made, one of them as deep as calls can make it and one whose grants all hold one point,
+ * and scrambled ones whose cells hang down to level 112; the lists, files, pools and records of openings have the most that there can be.
  *
  *     stack      prints a row for each call; status 1 where one needs more than LG_STACK_BYTES */
 #define _XOPEN_SOURCE 700
@@ -11,7 +11,8 @@
 #include <string.h>
 #include <ucontext.h>
 
-enum { CELLS = 2048, WORDS = 3 + 10 * CELLS, FILE_BYTES = 512 * 68, LEVELS = 112, AXES = 7, TOP = 65535, PAINTED = 256 * 1024 };
+enum { CELLS = 2048, WORDS = 3 + 10 * CELLS, FILE_BYTES = 512 * 68, LEVELS = 112, AXES = 7, PAINTED = 256 * 1024 };
+enum { MIDDLE = 32767, TOP = 65535 };
 enum { ENTRIES = 4096, ENTRY_BYTES = 8, RECORD_BYTES = ENTRY_BYTES * ENTRIES };
 
 /* The words of a cell: two links, the number, rank and kind, and the six ends of the box. */
@@ -43,6 +44,11 @@ static void call_grant(void)
 }
 static void call_revoke(void) { answer = lg_revoke(pool, WORDS, number); }
 static void call_list(void) { answer = lg_list(pool, WORDS, 0, TOP, 0, TOP, 0, TOP, list, CELLS); }
+static void call_list_holding(void) { answer = lg_list_holding(pool, WORDS, 0, TOP, 0, TOP, 0, TOP, list, CELLS); }
+static void call_list_holding_point(void)
+{
+    answer = lg_list_holding(pool, WORDS, point, point, point, point, quarter(), quarter() + 1, list, CELLS);
+}
 static void call_decide(void) { answer = lg_decide(pool, WORDS, point, point, quarter(), decided); }
 static void call_count(void) { answer = lg_count(pool, WORDS); }
 static void call_write(void) { answer = lg_write(pool, WORDS, 0, TOP, bytes, FILE_BYTES); }
@@ -59,7 +65,10 @@ static struct {
     unsigned made, refused;
 } calls[] = {
     {"lg_start", call_start, 0, 0, 0},   {"lg_grant", call_grant, 0, 0, 0},     {"lg_revoke", call_revoke, 0, 0, 0},
-    {"lg_list", call_list, 0, 0, 0},     {"lg_decide", call_decide, 0, 0, 0},   {"lg_count", call_count, 0, 0, 0},
+    {"lg_list", call_list, 0, 0, 0},
+    {"lg_list_holding", call_list_holding, 0, 0, 0},
+    {"lg_list_holding of a point", call_list_holding_point, 0, 0, 0},
+    {"lg_decide", call_decide, 0, 0, 0}, {"lg_count", call_count, 0, 0, 0},
     {"lg_write", call_write, 0, 0, 0},   {"lg_load", call_load, 0, 0, 0},       {"lg_match", call_match, 0, 0, 0},
     {"lg_block", call_block, 0, 0, 0},   {"lg_block_part", call_part, 0, 0, 0}, {"lg_compare_openings", call_openings, 0, 0, 0},
 };
@@ -163,6 +172,24 @@ static void make_deep(void)
     for (uint16_t n = TOP - 7; n < TOP; n++)
         add(n, box);
     fill_from(1);
+}
+
+/* Grants at random that all hold the point in the middle: a list of it has all of them. */
+static void make_nested(void)
+{
+    point = MIDDLE;
+    lg_start(pool, WORDS);
+    for (uint16_t n = 1; n <= CELLS; n++) {
+        uint16_t box[6];
+        for (int i = 0; i < 6; i += 2) {
+            box[i] = any() % (MIDDLE + 1);
+            box[i + 1] = MIDDLE + 1 + any() % (TOP - MIDDLE);
+        }
+        add(n, box);
+    }
+    call_list_holding_point();
+    if (answer != (uint64_t)CELLS << 8)
+        fail("not all grants hold the point in the middle");
 }
 
 static uint16_t *cell(unsigned k)
@@ -278,6 +305,8 @@ int main(void)
     measure();
     lg_revoke(pool, WORDS, 1);
     measure();
+    make_nested();
+    measure();
     measure_scrambled(TOP, TOP);
     measure_scrambled(0, 1);
     measure_records();
@@ -287,8 +316,8 @@ int main(void)
     int status = 0;
     for (size_t i = 0; i < CALLS; i++) {
         int more = calls[i].most > LG_STACK_BYTES;
-        printf("%-19s %6zu bytes at most in %u calls, %u of them refused%s\n", calls[i].name, calls[i].most, calls[i].made, calls[i].refused,
-               more ? ": more than LG_STACK_BYTES" : "");
+        printf("%-26s %6zu bytes at most in %u calls, %u of them refused%s\n", calls[i].name, calls[i].most, calls[i].made,
+               calls[i].refused, more ? ": more than LG_STACK_BYTES" : "");
         status |= more;
     }
     return status;

@@ -2,7 +2,7 @@
 //!
 //!     cargo run --example night_shift
 
-use locker_grants::{file, Bounds, Decision, Fault, Grant, HalfOpen, Index, Kind, Match};
+use locker_grants::{file, Bounds, Choice, Decision, Fault, Grant, HalfOpen, Index, Kind, Match};
 
 /// Quarter-hours from the operator's base day: ten in the evening until six in the morning, when the shift is over.
 const NIGHT: HalfOpen = HalfOpen { from: 88, until: 120 };
@@ -33,7 +33,11 @@ fn main() -> Result<(), Fault> {
 
     let mut bank = Index::new(64)?;
     bank.load(&cut)?;
-    println!("the bank's grants: {:?}", bank.list(Bounds { staff: (0, 65535), doors: (1, 20), quarters: NIGHT })?);
+    let everyone = Bounds { staff: (0, 65535), doors: (1, 20), quarters: NIGHT };
+    println!("the bank's grants: {:?}", bank.list(everyone, Choice::Touching)?);
+    // A roster asks for the grants that cover all of a shift: all its staff, doors and quarters.
+    let shift = Bounds { staff: (100, 199), ..everyone };
+    println!("for all of the shift of staff 100 to 199: {:?}", bank.list(shift, Choice::Holding)?);
     for staff in [120, 150, 195, 200] {
         match bank.decide(staff, 12, 90)? {
             Decision::Opens(grant) => println!("door 12 opens for {staff} by grant {}", grant.number),

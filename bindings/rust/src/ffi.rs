@@ -32,6 +32,19 @@ extern "C" {
         list_words: usize,
     ) -> u64;
 
+    pub fn lg_list_holding(
+        pool: *const u16,
+        pool_words: usize,
+        staff_from: u16,
+        staff_to: u16,
+        door_from: u16,
+        door_to: u16,
+        quarter_from: u16,
+        quarter_to: u16,
+        list: *mut u16,
+        list_words: usize,
+    ) -> u64;
+
     pub fn lg_decide(pool: *const u16, pool_words: usize, staff: u16, door: u16, quarter: u16, out: *mut u16) -> u64;
 
     pub fn lg_count(pool: *const u16, pool_words: usize) -> u64;

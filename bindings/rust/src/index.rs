@@ -1,6 +1,7 @@
 //! An index that owns its pool.
 
 use crate::answer::{Count, Decision, Match};
+use crate::choice::Choice;
 use crate::fault::Fault;
 use crate::grant::{Bounds, Grant, Span};
 use crate::pool;
@@ -56,10 +57,10 @@ impl Index {
         pool::revoke(&mut self.words, number)
     }
 
-    /// The numbers of the live grants that overlap a box, ascending. Refuses 2.
-    pub fn list(&self, bounds: Bounds) -> Result<Vec<u16>, Fault> {
+    /// The numbers of the live grants that touch a box, or of those that hold it, ascending. Refuses 2.
+    pub fn list(&self, bounds: Bounds, choice: Choice) -> Result<Vec<u16>, Fault> {
         let mut numbers = vec![0; self.count()?.live];
-        let found = pool::list(&self.words, bounds, &mut numbers)?;
+        let found = pool::list(&self.words, bounds, choice, &mut numbers)?;
         numbers.truncate(found);
         Ok(numbers)
     }

@@ -5,6 +5,7 @@
 //! fault itself and then leaves all memory as it was. examples/night_shift.rs is a page that shows it.
 
 mod answer;
+mod choice;
 mod fault;
 mod ffi;
 mod grant;
@@ -15,6 +16,7 @@ pub mod file;
 pub mod pool;
 
 pub use answer::{Count, Decision, Match};
+pub use choice::Choice;
 pub use fault::Fault;
 pub use grant::{Bounds, Grant, HalfOpen, Kind, Span};
 pub use index::{BadCapacity, Index};

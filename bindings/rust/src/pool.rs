@@ -3,6 +3,7 @@
 //! or answered, never followed outside the slice.
 
 use crate::answer::{unpack, Count, Decision, Match};
+use crate::choice::Choice;
 use crate::fault::Fault;
 use crate::ffi;
 use crate::grant::{Bounds, Grant, HalfOpen, Kind, Span};
@@ -44,12 +45,16 @@ pub fn revoke(pool: &mut [u16], number: u16) -> Result<(), Fault> {
     unpack(unsafe { ffi::lg_revoke(pool.as_mut_ptr(), pool.len(), number) }).map(|_| ())
 }
 
-/// Writes the numbers of the live grants that overlap a box, ascending, from the list's start, and returns how many; elements
-/// past them stay. Refuses 1, 2, 9 and 8, in this order.
-pub fn list(pool: &[u16], bounds: Bounds, list: &mut [u16]) -> Result<usize, Fault> {
+/// Writes the numbers of the live grants that touch a box, or of those that hold it, ascending, from the list's start, and returns how
+/// many; elements past them stay. Refuses 1, 2, 9 and 8, in this order; the choice makes no difference to 1, 2 and 9.
+pub fn list(pool: &[u16], bounds: Bounds, choice: Choice, list: &mut [u16]) -> Result<usize, Fault> {
     let Bounds { staff, doors, quarters } = bounds;
+    let function = match choice {
+        Choice::Touching => ffi::lg_list,
+        Choice::Holding => ffi::lg_list_holding,
+    };
     unpack(unsafe {
-        ffi::lg_list(
+        function(
             pool.as_ptr(),
             pool.len(),
             staff.0,

@@ -41,7 +41,7 @@ pub fn point_of(g: Grant) -> Point
 }
 
 // Whether the point of the grant in a cell lies in a search range. Only the comparisons that can fail are made.
-pub fn is_hit(pool: &[u16], cell: usize, range: &Region) -> bool
+pub fn in_range(pool: &[u16], cell: usize, range: &Region) -> bool
     requires { ⌜ InPool (now pool) cell × OneSided (now range) ⌝ }
     ensures { λ r. ⌜ r ≡ inRange (now (range .entry)) (grantAt (now (pool .entry)) cell) ⌝ }
 {

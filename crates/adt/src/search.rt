@@ -1,10 +1,14 @@
 // The search: source 001's three steps. `visit` tests a cell and enters its two subtrees; `enter` tests a subtree's region against
 // the range and visits its cell. The levels remaining fall. A search that meets a cause of fault 9 answers false at once.
 ghost use Rattle.geometry.specs.SearchRange.{OneSided};
-ghost use Rattle.adt.specs.Search.{inRange, search};
+ghost use Rattle.adt.specs.Search.{searchBy};
+ghost use Rattle.adt.specs.Predicate.{passes, predicateIn};
 ghost use Rattle.adt.specs.SearchMemory.{Fresh, Encodes, Testing, Visiting, Entering, tested, visited, entered};
-use crate::node::is_hit;
 use crate::node::link_place;
+use crate::predicates::Predicate;
+use crate::predicates::PredicateWords;
+use crate::predicates::is_hit;
+use crate::predicates::words_of;
 use geometry::Side;
 use geometry::axis::LEVELS;
 use geometry::axis::axis_of;
@@ -32,7 +36,7 @@ pub const LEVEL: usize = 2;
 
 pub const LINK: usize = 3;
 
-// Counts the cell k as met, and keeps it if its point lies in the range; false where all cells have been met before.
+// Counts the cell k as met, and keeps it if it is a hit; false where all cells have been met before.
 fn test(
     pool: &[u16],
     cells: usize,
@@ -40,12 +44,14 @@ fn test(
     level: usize,
     link: usize,
     range: &Region,
+    predicate: &PredicateWords,
     hits: &mut HitCells,
     counters: &mut Counters,
 ) -> bool
     requires { ⌜ Testing (now pool) cells (now range) (now hits) (now counters) k ⌝ }
     ensures { λ r. ⌜ Encodes cells r (now (hits .exit)) (now (counters .exit))
-        (tested (now (pool .entry)) cells (now (range .entry)) (inRange (now (range .entry))) (now (hits .entry)) (now (counters .entry)) k level link) ⌝ }
+        (tested (now (pool .entry)) cells (now (range .entry)) (passes (predicateIn (now (predicate .entry))) (now (range .entry)))
+        (now (hits .entry)) (now (counters .entry)) k level link) ⌝ }
 {
     let met = counters[MET];
     let found = counters[FOUND];
@@ -53,7 +59,7 @@ fn test(
         return false;
     }
     counters[MET] = met + 1;
-    if !is_hit(pool, k, range) {
+    if !is_hit(pool, k, range, predicate) {
         return true;
     }
     counters[FOUND] = found + 1;
@@ -76,16 +82,27 @@ fn visit(
     link: usize,
     region: Region,
     range: &Region,
+    predicate: &PredicateWords,
     hits: &mut HitCells,
     counters: &mut Counters,
 ) -> bool
     requires { ⌜ Visiting (now pool) cells (now range) (now hits) (now counters) k below region ⌝ }
     ensures { λ r. ⌜ Encodes cells r (now (hits .exit)) (now (counters .exit))
-        (visited (now (pool .entry)) cells (now (range .entry)) (inRange (now (range .entry)))
+        (visited (now (pool .entry)) cells (now (range .entry)) (passes (predicateIn (now (predicate .entry))) (now (range .entry)))
         (now (hits .entry)) (now (counters .entry)) k below link region) ⌝ }
 {
     let level = LEVELS - below;
-    if !test(pool, cells, k, level, link, range, hits, counters) {
+    if !test(
+        pool,
+        cells,
+        k,
+        level,
+        link,
+        range,
+        predicate,
+        hits,
+        counters,
+    ) {
         return false;
     }
     let left = link_place(k, Side::Left);
@@ -98,6 +115,7 @@ fn visit(
             Side::Left,
             region,
             range,
+            predicate,
             hits,
             counters,
         ) {
@@ -116,6 +134,7 @@ fn visit(
         Side::Right,
         region,
         range,
+        predicate,
         hits,
         counters,
     )
@@ -131,12 +150,13 @@ fn enter(
     side: Side,
     mut region: Region,
     range: &Region,
+    predicate: &PredicateWords,
     hits: &mut HitCells,
     counters: &mut Counters,
 ) -> bool
     requires { ⌜ Entering (now pool) cells (now range) (now hits) (now counters) below link region ⌝ }
     ensures { λ r. ⌜ Encodes cells r (now (hits .exit)) (now (counters .exit))
-        (entered (now (pool .entry)) cells (now (range .entry)) (inRange (now (range .entry)))
+        (entered (now (pool .entry)) cells (now (range .entry)) (passes (predicateIn (now (predicate .entry))) (now (range .entry)))
         (now (hits .entry)) (now (counters .entry)) below link side region) ⌝ }
 {
     if below == 0 {
@@ -161,22 +181,25 @@ fn enter(
         link,
         region,
         range,
+        predicate,
         hits,
         counters,
     )
 }
 
-// Searches the tree for the cells whose points lie in the range. Leaves them in `hits`, in the order of the search, and in `counters` how many
-// there are, with the first one's level and the place of its link. False where the walk met a cause of fault 9.
+// Searches the tree through the range, for the cells that are hits by the predicate. Leaves them in `hits`, in the order of the search, and in
+// `counters` how many there are, with the first one's level and the place of its link. False where the walk met a cause of fault 9.
 pub fn search(
     pool: &[u16],
     cells: usize,
     range: &Region,
+    predicate: Predicate,
     hits: &mut HitCells,
     counters: &mut Counters,
 ) -> bool
     requires { ⌜ Fresh (now pool) cells (now hits) (now counters) × OneSided (now range) ⌝ }
-    ensures { λ r. ⌜ Encodes cells r (now (hits .exit)) (now (counters .exit)) (search (now (pool .entry)) (now (range .entry))) ⌝ }
+    ensures { λ r. ⌜ Encodes cells r (now (hits .exit)) (now (counters .exit))
+        (searchBy (now (pool .entry)) (now (range .entry)) (passes predicate (now (range .entry)))) ⌝ }
 {
     if pool[ROOT] == 0 {
         return true;
@@ -185,6 +208,7 @@ pub fn search(
     if !meets_range(&region, range) {
         return true;
     }
+    let words = words_of(predicate);
     enter(
         pool,
         cells,
@@ -193,6 +217,7 @@ pub fn search(
         Side::Left,
         region,
         range,
+        &words,
         hits,
         counters,
     )

@@ -1,6 +1,7 @@
 // The C interface (include/lg.h): each call is the entry point of its name, and returns its answer packed into one word (packing/specs/Pack).
 // Each is safe on any memory of the lengths that it is given. A refusal leaves everything as it was.
 ghost use mathlib.Core.Path.{_≡_};
+ghost use Rattle.model.specs.declared.Choice.the-variants.{Touching, Holding};
 ghost use Rattle.model.specs.Call.{request};
 ghost use Rattle.calls.specs.Calls.{startCall, grantCall, revokeCall, listCall, decideCall, countCall};
 ghost use Rattle.block_read.specs.BlockRead.{blockCall};
@@ -19,6 +20,7 @@ use index::grant::grant;
 use index::revoke::revoke;
 use index::start::start;
 use model::Box;
+use model::Choice;
 use openings::compare::compare_openings;
 use packing::B_VALUES;
 use packing::pack_compared;
@@ -76,7 +78,7 @@ pub extern "C" fn lg_revoke(pool: &mut [u16], number: u16) -> u64
     pack_outcome(revoke(pool, number))
 }
 
-// Refuses 1, 2, 9 and 8, in this order. Elements past the numbers stay.
+// Lists the grants that touch the box. Refuses 1, 2, 9 and 8, in this order. Elements past the numbers stay.
 #[no_mangle]
 pub extern "C" fn lg_list(
     pool: &[u16],
@@ -89,7 +91,7 @@ pub extern "C" fn lg_list(
     list: &mut [u16],
 ) -> u64
     ensures { λ r. ⌜ PacksLent pack r (now (list .exit))
-        (listCall (now (pool .entry)) (boxOf «staff_from» «staff_to» «door_from» «door_to» «quarter_from» «quarter_to») (now (list .entry))) ⌝ }
+        (listCall (now (pool .entry)) (boxOf «staff_from» «staff_to» «door_from» «door_to» «quarter_from» «quarter_to») Touching (now (list .entry))) ⌝ }
 {
     let bounds = Box {
         staff_from,
@@ -99,7 +101,33 @@ pub extern "C" fn lg_list(
         quarter_from,
         quarter_to,
     };
-    pack_listed(queries::list::list(pool, bounds, list))
+    pack_listed(queries::list::list(pool, bounds, Choice::Touching, list))
+}
+
+// Lists those that hold the box, and is lg_list else.
+#[no_mangle]
+pub extern "C" fn lg_list_holding(
+    pool: &[u16],
+    staff_from: u16,
+    staff_to: u16,
+    door_from: u16,
+    door_to: u16,
+    quarter_from: u16,
+    quarter_to: u16,
+    list: &mut [u16],
+) -> u64
+    ensures { λ r. ⌜ PacksLent pack r (now (list .exit))
+        (listCall (now (pool .entry)) (boxOf «staff_from» «staff_to» «door_from» «door_to» «quarter_from» «quarter_to») Holding (now (list .entry))) ⌝ }
+{
+    let bounds = Box {
+        staff_from,
+        staff_to,
+        door_from,
+        door_to,
+        quarter_from,
+        quarter_to,
+    };
+    pack_listed(queries::list::list(pool, bounds, Choice::Holding, list))
 }
 
 // Refuses 1 and 9, in this order. `out` stays as it was unless the answer is opens or barred.

@@ -17,6 +17,6 @@ pub call-refines : (w : List ℕ) (b : Book) (c : Call) → CallFits c → Repre
 unfolding wordsStep bookStep
 call-refines w b (grant r) fits h = grant-refines h r fits
 call-refines w b (revoke n) fits h = revoke-refines h n
-call-refines w b (list q lent) fits h = list-refines h q lent
+call-refines w b (list q choice lent) fits h = list-refines h q choice lent
 call-refines w b (decide staff door quarter) fits h = decide-refines h staff door quarter
 call-refines w b count fits h = count-refines h

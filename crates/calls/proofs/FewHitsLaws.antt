@@ -11,6 +11,8 @@ use Rattle.lists.specs.Tests.{filter}
 use Rattle.lists.proofs.TestLaws.{length-filter}
 use Rattle.model.specs.declared.Box.{Box}
 use Rattle.model.specs.declared.Grant.{Grant}
+use Rattle.model.specs.declared.Choice.{Choice}
+use Rattle.model.specs.Relation.{taken}
 use Rattle.geometry.specs.Region.{Region}
 use Rattle.geometry.specs.SearchRange.{rangeOfBox}
 use Rattle.pool.specs.Capacity.{capacityOf}
@@ -37,5 +39,5 @@ hits-few w q passes = go (searchBy w q passes) refl
           unbroken-few (capacityOf w) 0 links (s .whole),
         )
 
-pub box-few : (w : List ℕ) (q : Box) → length (hitsOf (boxSearch w q)) ≤ capacityOf w
-box-few w q = hits-few w (rangeOfBox q) _
+pub box-few : (w : List ℕ) (q : Box) (choice : Choice) → length (hitsOf (boxSearch w q choice)) ≤ capacityOf w
+box-few w q choice = hits-few w (rangeOfBox q) (taken choice q)

@@ -12,9 +12,12 @@ use lib.Dec.{eqb·suc-zero}
 use lib.ListN.{length, getD}
 use native.Mathlib.Omega.{arith}
 use Rattle.lists.specs.Tests.{filter}
+use Rattle.model.specs.declared.Box.{Box}
 use Rattle.model.specs.declared.Grant.{Grant}
+use Rattle.model.specs.declared.Choice.the-variants.{Touching}
 use Rattle.model.specs.Quarters.{coverable}
 use Rattle.model.specs.Box.{pointBox}
+use Rattle.model.specs.Relation.{taken}
 use Rattle.model.specs.Call.{Request}
 use Rattle.geometry.specs.Levels.{levels}
 use Rattle.geometry.specs.Region.{Region}
@@ -29,7 +32,7 @@ use Rattle.adt.specs.Links.{Link, brokenBy, searchLinks, isHit, hitsAmong}
 use Rattle.adt.proofs.SearchLinks.{Searched, search-broken-iff, search-going}
 use Rattle.adt.proofs.InsertionLinks.{brokenInsertion, descend-broken, freeBroken-links}
 use Rattle.adt.proofs.RemovalLinks.{brokenRemoval, terminalFrom-broken}
-use Rattle.calls.specs.Walks.{noWalk, pointSearch, isBroken, hitsOf, removalOf}
+use Rattle.calls.specs.Walks.{boxSearch, noWalk, pointSearch, isBroken, hitsOf, removalOf}
 use Rattle.calls.specs.Causes.{numberLive, insertionBroken, removalBroken, grantBroken, revokeBroken}
 use Rattle.calls.specs.LinkCauses.{searchMeets9, pointMeets9, hitsBy, grantMeets9, removalMeets9, revokeMeets9}
 
@@ -54,11 +57,11 @@ pub pointBroken-links : (w : List ℕ) (staff door quarter : ℕ) → isBroken (
 unfolding pointMeets9
 pointBroken-links w staff door quarter = go (coverable quarter)
   where
-    q : Region
-    q = rangeOfBox (pointBox staff door quarter)
+    q : Box
+    q = pointBox staff door quarter
 
-    go : (t : Bool) → isBroken (cond t (search w q) noWalk) ≡ (t && searchMeets9 w q)
-    go true = isBroken-links w q (inRange q)
+    go : (t : Bool) → isBroken (cond t (boxSearch w q Touching) noWalk) ≡ (t && searchMeets9 w (rangeOfBox q))
+    go true = isBroken-links w (rangeOfBox q) (taken Touching q)
     go false = refl
 
 insertionBroken-same : (way : InsertionWalk) → insertionBroken way ≡ brokenInsertion way

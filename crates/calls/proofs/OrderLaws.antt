@@ -8,8 +8,10 @@ use mathlib.Core.Path.{_≡_, refl}
 use mathlib.Core.Bool.{Bool, true, false}
 use mathlib.Core.List.{List, [], _∷_}
 use Rattle.model.specs.declared.Box.{Box}
+use Rattle.model.specs.declared.Choice.{Choice}
 use Rattle.model.specs.Interval.{Interval}
 use Rattle.model.specs.declared.Fault.the-variants.{BadPool, BrokenLinks, AlreadyLive, Full}
+use Rattle.model.specs.Relation.{taken}
 use Rattle.model.specs.Refusal.{Cause, _if_, firstFault}
 use Rattle.model.specs.Call.{Request}
 use Rattle.model.specs.Arguments.{requestCauses}
@@ -19,7 +21,7 @@ use Rattle.geometry.specs.SearchRange.{rangeOfBox, rangeOfDoors, rangeOfNumber}
 use Rattle.adt.proofs.LinkLaws.{or-left}
 use Rattle.calls.specs.Walks.{numberSearch, boxSearch, doorSearch, isBroken, hitsOf}
 use Rattle.calls.specs.Causes.{numberLive, noFreeCell, grantBroken, revokeBroken}
-use Rattle.calls.specs.LinkCauses.{searchMeets9, searchHits, grantMeets9, revokeMeets9}
+use Rattle.calls.specs.LinkCauses.{searchMeets9, searchHits, boxHits, grantMeets9, revokeMeets9}
 use Rattle.calls.specs.Order.{grantOrder, revokeOrder, listOrder, writeOrder}
 use Rattle.calls.proofs.LinkCauseLaws.{isBroken-links, hitsOf-links, grantBroken-links, revokeBroken-links}
 
@@ -61,11 +63,12 @@ revokeOrder-links w n =
     order-same (revokeOrder w n) (λ h k. refl) (revokeBroken-links w n)
     (λ whole. hitsOf-links w (rangeOfNumber n) _ (revokeBroken-search w n whole))
 
-pub listOrder-links : (w : List ℕ) (q : Box) (lent : List ℕ)
-    → firstFault (listOrder w q lent (isBroken (boxSearch w q)) (hitsOf (boxSearch w q)))
-    ≡ firstFault (listOrder w q lent (searchMeets9 w (rangeOfBox q)) (searchHits w (rangeOfBox q)))
+pub listOrder-links : (w : List ℕ) (q : Box) (choice : Choice) (lent : List ℕ)
+    → firstFault (listOrder w q lent (isBroken (boxSearch w q choice)) (hitsOf (boxSearch w q choice)))
+    ≡ firstFault (listOrder w q lent (searchMeets9 w (rangeOfBox q)) (boxHits w q choice))
 unfolding listOrder firstFault
-listOrder-links w q lent = order-same (listOrder w q lent) (λ h k. refl) (isBroken-links w (rangeOfBox q) _) (hitsOf-links w (rangeOfBox q) _)
+listOrder-links w q choice lent =
+    order-same (listOrder w q lent) (λ h k. refl) (isBroken-links w (rangeOfBox q) _) (hitsOf-links w (rangeOfBox q) (taken choice q))
 
 pub writeOrder-links : (w : List ℕ) (doors : Interval) (lent : List ℕ)
     → firstFault (writeOrder w doors lent (isBroken (doorSearch w doors)) (hitsOf (doorSearch w doors)))

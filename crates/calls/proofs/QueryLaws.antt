@@ -17,15 +17,19 @@ use Rattle.lists.proofs.DistinctLaws.{distinct-none}
 use Rattle.lists.proofs.SortLaws.{perm-sortBy, map-sortBy}
 use Rattle.model.specs.declared.Box.{Box}
 use Rattle.model.specs.declared.Grant.{Grant}
+use Rattle.model.specs.declared.Choice.{Choice}
+use Rattle.model.specs.declared.Choice.the-variants.{Touching}
 use Rattle.model.specs.declared.Fault.the-variants.{Reversed, BrokenLinks, ListTooShort}
 use Rattle.model.specs.Quarters.{coverable}
 use Rattle.model.specs.Box.{pointBox}
 use Rattle.model.specs.Overlap.{overlaps}
+use Rattle.model.specs.Relation.{taken}
 use Rattle.model.specs.Refusal.{_if_, firstFault}
 use Rattle.model.specs.Arguments.{reversedBox}
 use Rattle.model.specs.Decide.{decideAmong}
-use Rattle.model.specs.Book.{Book, overlapping, bookList, bookDecide, bookCount}
+use Rattle.model.specs.Book.{Book, takenFor, bookList, bookDecide, bookCount}
 use Rattle.model.proofs.QuarterLaws.{uncoverable-apart, forward-quarters}
+use Rattle.model.proofs.RelationLaws.{taken-overlaps, taken-touching}
 use Rattle.model.proofs.DecideLaws.{decideAmong-perm}
 use Rattle.model.proofs.RefusalLaws.{causes-absent}
 use Rattle.model.proofs.Simulation.{Agrees, refusing-agrees, accepting-agrees}
@@ -37,7 +41,7 @@ use Rattle.calls.specs.Walks.{boxSearch, noWalk, quarterSearch, fullSear
 use Rattle.calls.specs.Order.{listOrder, lookOrder}
 use Rattle.calls.specs.Calls.{listCall, decideCall, countCall}
 use Rattle.calls.proofs.Represents.{grantNumber, Represents, represents-pool, represents-capacity, represents-fits, represents-live}
-use Rattle.calls.proofs.Represents.{Hits, range-hits}
+use Rattle.calls.proofs.Represents.{Hits, represents-hits, range-hits}
 
 -- the order lines where the pool is right and no walk is broken; of a box that is refused nothing else matters
 list-order : (w : List ℕ) (q : Box) (lent : List ℕ) {broken : Bool} (hits numbers : List ℕ) → wrongPool w ≡ false
@@ -67,8 +71,13 @@ hits-numbers : {w : List ℕ} {gs : List Grant} {t : Grant → Bool} {s : Search
 hits-numbers {w} {s = s} h = sym (map-sortBy grantNumber (grantsHit w s)) ∙ ap (map grantNumber) (h .grants)
 
 module _ {w : List ℕ} {b : Book} (h : Represents w b) where
-  box-found : (q : Box) → q .«quarter_from» < q .«quarter_to» → Hits w (b .live) (λ g. overlaps (g .bounds) q) (boxSearch w q)
-  box-found q some = range-hits h (rangeOfBox q) (λ g. overlaps (g .bounds) q) (λ g fits. box-hits g fits q some)
+  -- what is taken overlaps, so it lies in the search range of a box that covers a quarter
+  module _ (q : Box) (choice : Choice) (some : q .«quarter_from» < q .«quarter_to») (t : Grant → Bool) (says : (g : Grant) → taken choice q g ≡ t g) where
+    box-found : Hits w (b .live) t (boxSearch w q choice)
+    box-found =
+        represents-hits h (rangeOfBox q) (taken choice q) t
+        (λ g fits e. box-hits g fits q some ∙ taken-overlaps choice q g e)
+        (λ g fits. says g)
 
   none-found : (q : Box) → coverable (q .«quarter_from») ≡ false → Hits w (b .live) (λ g. overlaps (g .bounds) q) noWalk
   unfolding sortBy
@@ -80,18 +89,19 @@ module _ {w : List ℕ} {b : Book} (h : Represents w b) where
   pub quarter-found : (q : Box) → q .«quarter_to» ≡ q .«quarter_from» + 1 → Hits w (b .live) (λ g. overlaps (g .bounds) q) (quarterSearch w q)
   quarter-found q one = go (coverable (q .«quarter_from»)) refl
     where
-      go : (t : Bool) → coverable (q .«quarter_from») ≡ t → Hits w (b .live) (λ g. overlaps (g .bounds) q) (cond t (boxSearch w q) noWalk)
-      go true e = box-found q (omega (arith, one))
+      go : (t : Bool) → coverable (q .«quarter_from») ≡ t → Hits w (b .live) (λ g. overlaps (g .bounds) q) (cond t (boxSearch w q Touching) noWalk)
+      go true e = box-found q Touching (omega (arith, one)) _ (taken-touching q)
       go false e = none-found q e
 
-  pub list-refines : (q : Box) (lent : List ℕ) → Agrees Represents (listCall w q lent) (bookList b q lent)
+  pub list-refines : (q : Box) (choice : Choice) (lent : List ℕ) → Agrees Represents (listCall w q choice lent) (bookList b q choice lent)
   unfolding listCall bookList
-  list-refines q lent =
-      let s = boxSearch w q in
-      let numbers = map grantNumber (overlapping q (b .live)) in
-      let found : reversedBox q ≡ false → Hits w (b .live) (λ g. overlaps (g .bounds) q) s = λ e. box-found q (forward-quarters q e) in
+  list-refines q choice lent =
+      let s = boxSearch w q choice in
+      let numbers = map grantNumber (takenFor q choice (b .live)) in
+      let found : reversedBox q ≡ false → Hits w (b .live) (taken choice q) s =
+      λ e. box-found q choice (forward-quarters q e) (taken choice q) (λ g. refl) in
       let long : reversedBox q ≡ false → length (hitsOf s) ≡ length numbers =
-      λ e. found e .count ∙ sym (length-map (overlapping q (b .live)) grantNumber) in
+      λ e. found e .count ∙ sym (length-map (takenFor q choice (b .live)) grantNumber) in
       refusing-agrees Represents _ _ lent _ _ h
       (list-order w q lent (hitsOf s) numbers (represents-pool h) (λ e. found e .whole) long)
       (λ none. let e = causes-absent _ _ none .0 in record { same = rw (long e, hits-numbers (found e)); related = h })

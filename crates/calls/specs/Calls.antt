@@ -3,7 +3,7 @@
 -- the claims cite these.
 --   startCall w                   the pool that start leaves
 --   grantCall w r, revokeCall w n the pool after them
---   listCall w q lent             the lent list after it
+--   listCall w q choice lent      the lent list after it
 --   decideCall w s d q, countCall w
 --   wordsStep w c                 the step of a call of demand 3's lists
 -- On a scrambled pool document 01 leaves to the program what an accepted call answers, and what grant and revoke leave in the pool.
@@ -16,6 +16,7 @@ use lib.ListN.{length}
 use Rattle.lists.specs.Overwrite.{overwrite}
 use Rattle.lists.specs.Sort.{sortBy}
 use Rattle.model.specs.declared.Box.{Box}
+use Rattle.model.specs.declared.Choice.{Choice}
 use Rattle.model.specs.Answer.{accepted, decisionAnswer}
 use Rattle.model.specs.Refusal.{Cause, Step, refusing}
 use Rattle.model.specs.Decide.{decideAmong}
@@ -71,9 +72,9 @@ revokeCall w n =
     w []
     (record { state = revokedWords w (firstHit s) (firstSpotOf s .link) (removalOf w s); answer = accepted []; lent = [] })
 
-unfoldable pub listCall : List ℕ → Box → List ℕ → Step (List ℕ)
-listCall w q lent =
-    let s = boxSearch w q in
+unfoldable pub listCall : List ℕ → Box → Choice → List ℕ → Step (List ℕ)
+listCall w q choice lent =
+    let s = boxSearch w q choice in
     let numbers = sortBy (λ n. n) (map (λ g. g .number) (grantsHit w s)) in
     refusing
     (listOrder w q lent (isBroken s) (hitsOf s))
@@ -100,6 +101,6 @@ countCall w =
 unfoldable pub wordsStep : List ℕ → Call → Step (List ℕ)
 wordsStep w (grant r) = grantCall w r
 wordsStep w (revoke n) = revokeCall w n
-wordsStep w (list q lent) = listCall w q lent
+wordsStep w (list q choice lent) = listCall w q choice lent
 wordsStep w (decide staff door quarter) = decideCall w staff door quarter
 wordsStep w count = countCall w

@@ -2,6 +2,7 @@
 -- Demand 1 cites these; the calls cite the walks that stop. Nothing here is taken from those: `numberLive` only says that there are hits.
 --   searchMeets9 w q                   of a search for the range q
 --   hitsBy w q passes, searchHits w q  its hits: the cells met whose grants pass a test; those in the range
+--   boxHits w q choice                 list's: the cells met that the choice takes
 --   pointMeets9 w staff door quarter   of decide: nothing is walked at a quarter that no grant can cover (document 02, card 2)
 --   freeMeets9 w                       the free head or its cell's left link, as grant reads them, is above C
 --   grantMeets9 w r                    grant: when the number isn't found, also the way down, the free head and its cell's left link
@@ -12,9 +13,12 @@ use mathlib.Core.Bool.{Bool, false, not, _&&_, _||_}
 use mathlib.Core.List.{List, [], _∷_}
 use lib.Dec.{ltb}
 use Rattle.lists.specs.Tests.{filter, any}
+use Rattle.model.specs.declared.Box.{Box}
 use Rattle.model.specs.declared.Grant.{Grant}
+use Rattle.model.specs.declared.Choice.{Choice}
 use Rattle.model.specs.Quarters.{coverable}
 use Rattle.model.specs.Box.{pointBox}
+use Rattle.model.specs.Relation.{taken}
 use Rattle.model.specs.Call.{Request, requested}
 use Rattle.geometry.specs.Region.{Region}
 use Rattle.geometry.specs.Point.{pointOf}
@@ -32,6 +36,9 @@ hitsBy w q passes = hitsAmong w passes (searchLinks w q)
 
 abbrev pub searchHits : List ℕ → Region → List ℕ
 searchHits w q = hitsBy w q (inRange q)
+
+abbrev pub boxHits : List ℕ → Box → Choice → List ℕ
+boxHits w q choice = hitsBy w (rangeOfBox q) (taken choice q)
 
 unfoldable pub pointMeets9 : List ℕ → ℕ → ℕ → ℕ → Bool
 pointMeets9 w staff door quarter = coverable quarter && searchMeets9 w (rangeOfBox (pointBox staff door quarter))

@@ -12,20 +12,23 @@ use mathlib.Core.List.{List, [], map}
 use lib.ListN.{getD}
 use Rattle.model.specs.declared.Box.{Box}
 use Rattle.model.specs.declared.Grant.{Grant}
+use Rattle.model.specs.declared.Choice.{Choice}
+use Rattle.model.specs.declared.Choice.the-variants.{Touching}
 use Rattle.model.specs.Interval.{Interval}
 use Rattle.model.specs.Quarters.{coverable}
 use Rattle.model.specs.Box.{pointBox}
+use Rattle.model.specs.Relation.{taken}
 use Rattle.model.specs.Call.{Request, requested}
 use Rattle.geometry.specs.Point.{pointOf}
 use Rattle.geometry.specs.SearchRange.{rangeOfBox, rangeOfDoors, rangeOfNumber, rangeOfAll}
 use Rattle.pool.specs.Cell.{grantAt}
-use Rattle.adt.specs.Search.{Spot, nowhere, Search, broken, going, search}
+use Rattle.adt.specs.Search.{Spot, nowhere, Search, broken, going, searchBy, search}
 use Rattle.adt.specs.Insert.{InsertionWalk, descend}
 use Rattle.adt.specs.Remove.{RemovalWalk, terminalFrom}
 
--- list searches its box
-abbrev pub boxSearch : List ℕ → Box → Search
-boxSearch w q = search w (rangeOfBox q)
+-- list searches its box, through its range; its hits are the cells met that the choice takes (document 02, card 4)
+abbrev pub boxSearch : List ℕ → Box → Choice → Search
+boxSearch w q choice = searchBy w (rangeOfBox q) (taken choice q)
 
 -- nothing is walked
 abbrev pub noWalk : Search
@@ -33,7 +36,7 @@ noWalk = going 0 [] nowhere
 
 -- a box of one quarter is searched where a grant can cover the quarter (document 02, card 2)
 abbrev pub quarterSearch : List ℕ → Box → Search
-quarterSearch w q = cond (coverable (q .«quarter_from»)) (boxSearch w q) noWalk
+quarterSearch w q = cond (coverable (q .«quarter_from»)) (boxSearch w q Touching) noWalk
 
 -- decide searches its point
 abbrev pub pointSearch : List ℕ → ℕ → ℕ → ℕ → Search

@@ -12,6 +12,7 @@ use Rattle.model.specs.declared.Box.{Box}
 use Rattle.model.specs.declared.Kind.{Kind}
 use Rattle.model.specs.declared.Kind.the-variants as kind
 use Rattle.model.specs.declared.Grant.{Grant}
+use Rattle.model.specs.declared.Choice.{Choice}
 use Rattle.model.specs.declared.Matched.the-variants.{Differs}
 use Rattle.model.specs.Interval.{Interval}
 use Rattle.model.specs.Grant.{sameGrant}
@@ -25,7 +26,7 @@ use Rattle.geometry.specs.SearchRange.{rangeOfBox, rangeOfDoors, rangeOfNumber,
 use Rattle.grants_file.specs.File.{doorsIn}
 use Rattle.block_read.specs.BlockRead.{readCauses, blockCall}
 use Rattle.openings.specs.Compare.{openingsOrder, compareCall}
-use Rattle.calls.specs.LinkCauses.{searchMeets9, pointMeets9, searchHits, grantMeets9, revokeMeets9}
+use Rattle.calls.specs.LinkCauses.{searchMeets9, pointMeets9, searchHits, boxHits, grantMeets9, revokeMeets9}
 use Rattle.calls.specs.Order.{startOrder, grantOrder, revokeOrder, listOrder, lookOrder, writeOrder, loadOrder, matchOrder}
 use Rattle.calls.specs.Calls.{startCall, grantCall, revokeCall, listCall, decideCall, countCall}
 use Rattle.calls.specs.FileCalls.{writeCall, loadCall, firstDifference, matchCall}
@@ -79,10 +80,10 @@ pub revoke-judged : (w : List ℕ) (n : ℕ)
 unfolding revokeCall
 revoke-judged w n = judged-by _ _ w [] _ (revokeOrder-links w n) (_, refl)
 
-pub list-judged : (w : List ℕ) (q : Box) (lent : List ℕ)
-    → Judged (listOrder w q lent (searchMeets9 w (rangeOfBox q)) (searchHits w (rangeOfBox q))) w lent (listCall w q lent)
+pub list-judged : (w : List ℕ) (q : Box) (choice : Choice) (lent : List ℕ)
+    → Judged (listOrder w q lent (searchMeets9 w (rangeOfBox q)) (boxHits w q choice)) w lent (listCall w q choice lent)
 unfolding listCall
-list-judged w q lent = judged-by _ _ w lent _ (listOrder-links w q lent) (_, refl)
+list-judged w q choice lent = judged-by _ _ w lent _ (listOrder-links w q choice lent) (_, refl)
 
 pub decide-judged : (w : List ℕ) (staff door quarter : ℕ)
     → Judged (lookOrder w (pointMeets9 w staff door quarter)) w [] (decideCall w staff door quarter)
@@ -120,11 +121,11 @@ pub compare-judged : (door panel : List ℕ) → Judged (openingsOrder door pane
 unfolding compareCall
 compare-judged door panel = judged-by _ _ door panel _ refl (_, refl)
 
-pub keeps-pool : (w : List ℕ) (q : Box) (doors : Interval) (lent f : List ℕ) (staff door quarter : ℕ)
-    → (listCall w q lent .state ≡ w) × (decideCall w staff door quarter .state ≡ w) × (countCall w .state ≡ w)
+pub keeps-pool : (w : List ℕ) (q : Box) (choice : Choice) (doors : Interval) (lent f : List ℕ) (staff door quarter : ℕ)
+    → (listCall w q choice lent .state ≡ w) × (decideCall w staff door quarter .state ≡ w) × (countCall w .state ≡ w)
     × (writeCall w doors lent .state ≡ w) × (matchCall w f .state ≡ w)
 unfolding listCall decideCall countCall writeCall matchCall
-keeps-pool w q doors lent f staff door quarter = (
+keeps-pool w q choice doors lent f staff door quarter = (
   refusing-keeps-state _ w lent _ refl,
   refusing-keeps-state _ w [] _ refl,
   refusing-keeps-state _ w [] _ refl,

@@ -15,6 +15,7 @@ use native.Mathlib.Omega.{arith}
 use lib.ListN.{length, getD, set}
 use Rattle.model.specs.declared.Box.{Box}
 use Rattle.model.specs.declared.Grant.{Grant}
+use Rattle.model.specs.declared.Choice.{Choice}
 use Rattle.model.specs.declared.Fault.the-variants.{BadPool, Reversed, BadChecksum}
 use Rattle.model.specs.Interval.{Interval}
 use Rattle.model.specs.Answer.{accepted, refusal}
@@ -47,10 +48,10 @@ use Rattle.claims.specs.Claims.{MadePools, Demand2}
 use Rattle.claims.proofs.MadeLaws.{made-calls, set-accepted, made-set}
 use Rattle.claims.proofs.KeepsLaws.{files-written, made-pools}
 
-pub refused-boxes : (w : List ℕ) (q : Box) (lent : List ℕ) → reversedBox q ≡ true
-    → listCall w q lent .answer ≡ cond (wrongPool w) (refusal BadPool) (refusal Reversed)
+pub refused-boxes : (w : List ℕ) (q : Box) (choice : Choice) (lent : List ℕ) → reversedBox q ≡ true
+    → listCall w q choice lent .answer ≡ cond (wrongPool w) (refusal BadPool) (refusal Reversed)
 unfolding listCall listOrder firstFault
-refused-boxes w q lent reversed = refusing-front _ (Reversed if reversedBox q ∷ []) _ w lent _ Reversed (rw reversed refl)
+refused-boxes w q choice lent reversed = refusing-front _ (Reversed if reversedBox q ∷ []) _ w lent _ Reversed (rw reversed refl)
 
 pub writer-makes : (doors : Interval) (gs hs : List Grant) (c : ℕ) (memory : List ℕ) → FileSet doors gs → Ordering gs hs → Memory c memory → length gs ≤ c
     → Writes (grantAll (startCall memory .state) hs) doors (fileOf doors gs)

@@ -7,6 +7,7 @@ use mathlib.Core.List.{List, [], _∷_, _++_}
 use lib.ListN.{take, drop, replicate}
 use Rattle.model.specs.declared.Grant.{Grant}
 use Rattle.model.specs.declared.Kind.the-variants.{Bars}
+use Rattle.model.specs.declared.Choice.the-variants.{Touching}
 use Rattle.model.specs.Interval.{Interval}
 use Rattle.geometry.specs.declared.Side.the-variants.{Left}
 use Rattle.grants_file.specs.Block.{sealed, headerBlock, recordBlock}
@@ -29,7 +30,7 @@ abbrev others : List ℕ → List ℕ
 others w =
     responses (grantCall w (record { number = 0; rank = 0; kind = 2; bounds = box 1 0 0 0 0 0 }) .answer)
     ++ responses (revokeCall w 0 .answer)
-    ++ responses (listCall w (box 1 0 0 0 0 0) [] .answer)
+    ++ responses (listCall w (box 1 0 0 0 0 0) Touching [] .answer)
     ++ responses (decideCall w 0 0 0 .answer)
     ++ responses (countCall w .answer)
     ++ responses (writeCall w (record { from = 1; to = 0 }) [] .answer)

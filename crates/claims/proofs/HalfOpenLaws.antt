@@ -14,7 +14,6 @@ use native.Mathlib.Omega.{arith}
 use lib.Dec.{T, leb}
 use borrow.Author.Tests.{leb-true, leb-false, lt-leb, ltb-false, le-ltb}
 use Rattle.lists.proofs.OrLaws.{or-false-iff}
-use Rattle.lists.proofs.TestLaws.{T-iff, both-le, le-both}
 use Rattle.lists.proofs.ListLaws.{sameNumbers-true}
 use Rattle.model.specs.declared.Box.{Box}
 use Rattle.model.specs.declared.Grant.{Grant}
@@ -32,6 +31,7 @@ use Rattle.model.specs.Arguments.{reversedBox, requestCauses}
 use Rattle.model.specs.Call.{requestOf}
 use Rattle.model.specs.Values.{byteValues, Below}
 use Rattle.model.proofs.ArgumentLaws.{request-forward}
+use Rattle.model.proofs.OverlapLaws.{held-iff}
 use Rattle.model.proofs.QuarterLaws.{covers-iff, forward-quarters}
 use Rattle.pool.specs.Capacity.{wrongPool}
 use Rattle.grants_file.specs.File.{grantsIn}
@@ -71,11 +71,11 @@ overlap-covered a b some-a some-b = (
 
 -- a closed range that isn't reversed holds its from, and a reversed one holds nothing
 holds-from : (i : Interval) → reversed i ≡ false → T (holds i (i .from))
-holds-from i e = T-iff (holds i (i .from)) .1 (le-both (i .from) (i .from) (i .from) (i .to) (omega arith) (ltb-false (i .to) (i .from) e))
+holds-from i e = held-iff i (i .from) .1 (omega arith, ltb-false (i .to) (i .from) e)
 
 held-forward : (i : Interval) (x : ℕ) → T (holds i x) → reversed i ≡ false
 held-forward i x h =
-    let both = both-le (i .from) x x (i .to) (T-iff (holds i x) .0 h) in
+    let both = held-iff i x .0 h in
     le-ltb (i .to) (i .from) (omega (arith, both .0, both .1))
 
 lies-forward : (b : Box) (staff door quarter : ℕ) → LiesIn b staff door quarter → reversedBox b ≡ false
@@ -109,8 +109,8 @@ refused-pointless b = (
 -- a closed range overlaps a single number exactly if it holds it
 single-held : (i : Interval) (x : ℕ) → OverlapOn i (record { from = x; to = x }) ↔ T (holds i x)
 single-held i x = (
-  (λ o. T-iff (holds i x) .1 (le-both (i .from) x x (i .to) (o .starts) (o .ends))),
-  (λ h. let both = both-le (i .from) x x (i .to) (T-iff (holds i x) .0 h) in record { starts = both .0; ends = both .1 }),
+  (λ o. held-iff i x .1 (o .starts, o .ends)),
+  (λ h. let both = held-iff i x .0 h in record { starts = both .0; ends = both .1 }),
 )
 
 pub point-lies : (b : Box) (staff door quarter : ℕ) → Overlap b (pointBox staff door quarter) ↔ LiesIn b staff door quarter

@@ -1,5 +1,5 @@
 -- On words that stand for a plain book, what KeepsGrants promises of an index with its live grants (specs/KeepsGrants).
---   list-overlapping         what an accepted list wrote
+--   list-chosen              what an accepted list wrote
 --   decide-foremost          what decide answers
 --   files-written            write gives the file of any doors and the live grants touching them
 --   questions-alike          two pools of which one holds what the other has touching some doors answer alike about those doors, a case a question
@@ -23,15 +23,17 @@ use Rattle.model.specs.declared.Decision.the-variants as decision
 use Rattle.model.specs.Interval.{Interval}
 use Rattle.model.specs.Box.{pointBox}
 use Rattle.model.specs.Overlap.{Overlap, overlaps}
+use Rattle.model.specs.Relation.{Chosen, taken}
 use Rattle.model.specs.Grant.{touches}
 use Rattle.model.specs.Answer.{decisionAnswer}
 use Rattle.model.specs.Decide.{decisionOf, decideAmong}
 use Rattle.model.specs.Call.{grant, revoke, list, decide, count}
 use Rattle.model.specs.Values.{CallFits}
-use Rattle.model.specs.Book.{Book, overlapping, bookDecide, bookStep}
+use Rattle.model.specs.Book.{Book, overlapping, takenFor, bookDecide, bookStep}
 use Rattle.model.specs.Histories.{Response}
 use Rattle.model.proofs.AnswerLaws.{decisionAnswer-injective}
 use Rattle.model.proofs.OverlapLaws.{overlapping-iff}
+use Rattle.model.proofs.RelationLaws.{takenFor-iff}
 use Rattle.model.proofs.DecideLaws.{yields-iff, decideAmong-none, Foremost, foremost-decides}
 use Rattle.model.proofs.BookLaws.{bookList-writes}
 use Rattle.model.proofs.SoundLaws.{sound-answer}
@@ -53,31 +55,32 @@ use Rattle.claims.proofs.MadeLaws.{made-represents, set-accepted, made-
 questions-alike : {w v : List ℕ} {b d : Book} → Represents w b → Represents v d → (doors : Interval) → d .live ≡ filter (touches doors) (b .live)
     → AnswerAlike doors w v
 unfolding wordsStep
-questions-alike h k doors held (list q lent) asks = list-alike h k doors held q lent (asks .0) (asks .1)
+questions-alike h k doors held (list q choice lent) asks = list-alike h k doors held q choice lent (asks .0) (asks .1)
 questions-alike h k doors held (decide staff door quarter) asks = decide-alike h k doors held staff door quarter asks
 questions-alike h k doors held (grant r) asks = absurd asks
 questions-alike h k doors held (revoke n) asks = absurd asks
 questions-alike h k doors held count asks = absurd asks
 
 module _ {w : List ℕ} {b : Book} (h : Represents w b) where
-  pub list-overlapping : ListsGrants w (b .live)
-  list-overlapping q lent n taken =
-      let same = list-refines h q lent .same in
-      let wrote = bookList-writes b q lent n (sym (ap (λ (t : Response). t .answer) same) ∙ taken) in
+  pub list-chosen : ListsGrants w (b .live)
+  list-chosen q choice lent n done =
+      let same = list-refines h q choice lent .same in
+      let wrote = bookList-writes b q choice lent n (sym (ap (λ (t : Response). t .answer) same) ∙ done) in
       rw (ap (λ (t : Response). take n (t .lent)) same ∙ wrote)
       (record {
         member = member;
-        rising = rises-getD (λ n. n) 0 (rises-map grantNumber (rises-filter grantNumber (λ g. overlaps (g .bounds) q) (represents-rises h)));
+        rising = rises-getD (λ n. n) 0 (rises-map grantNumber (rises-filter grantNumber (taken choice q) (represents-rises h)));
       })
     where
       member : (n : ℕ)
-          → List·Memᴰ n (map grantNumber (overlapping q (b .live))) ↔ ((g : Grant) × List·Memᴰ g (b .live) × (g .number ≡ n) × Overlap (g .bounds) q)
+          → List·Memᴰ n (map grantNumber (takenFor q choice (b .live)))
+          ↔ ((g : Grant) × List·Memᴰ g (b .live) × (g .number ≡ n) × Chosen choice (g .bounds) q)
       member n = (
         (λ m.
-            let o = Memᴰ·of-map grantNumber (overlapping q (b .live)) m in
-            let both = overlapping-iff q (b .live) (o .0) .0 (o .1) in
+            let o = Memᴰ·of-map grantNumber (takenFor q choice (b .live)) m in
+            let both = takenFor-iff q choice (b .live) (o .0) .0 (o .1) in
             (o .0, both .0, o .2, both .1)),
-        (λ o. Memᴰ·cast (sym (o .2)) (Memᴰ·map grantNumber (overlapping-iff q (b .live) (o .0) .1 (o .1, o .3)))),
+        (λ o. Memᴰ·cast (sym (o .2)) (Memᴰ·map grantNumber (takenFor-iff q choice (b .live) (o .0) .1 (o .1, o .3)))),
       )
 
   module _ (staff door quarter : ℕ) where
@@ -149,7 +152,7 @@ module _ {w : List ℕ} {b : Book} (h : Represents w b) where
       record {
         holds = represents-holds h;
         answers = λ calls fit. calls-refine wordsStep bookStep Represents CallFits call-refines w b calls fit h .0;
-        lists = list-overlapping;
+        lists = list-chosen;
         decisions = decide-foremost;
         matches = λ doors gs s. record { equal = match-equal h s; differs = match-differs h s };
         files = files-written;

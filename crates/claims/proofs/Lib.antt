@@ -6,11 +6,13 @@ pub mod LinkCases
 pub mod FaultCases
 pub mod SeniorCases
 pub mod QuarterCases
+pub mod HoldingCases
 pub mod TriedCases
 pub mod MadeLaws
 pub mod KeepsLaws
 pub mod SeniorLaws
 pub mod HalfOpenLaws
+pub mod HoldingLaws
 pub mod OpeningsLaws
 pub mod RecordCases
 pub mod Demand1

@@ -9,6 +9,7 @@
 use Prim.Native.Nat.{ℕ}
 use mathlib.Core.List.{List, [], _∷_, _++_}
 use Rattle.model.specs.declared.Box.{Box}
+use Rattle.model.specs.declared.Choice.the-variants.{Touching}
 use Rattle.model.specs.Interval.{Interval}
 use Rattle.model.specs.Call.{Request}
 use Rattle.geometry.specs.declared.Side.the-variants.{Left, Right}
@@ -29,7 +30,7 @@ abbrev revoked : List ℕ → ℕ → List ℕ
 revoked w n = test (searchMeets9 w (rangeOfNumber n)) ++ test (revokeMeets9 w n) ++ responses (revokeCall w n .answer)
 
 abbrev listed : List ℕ → Box → List ℕ → List ℕ
-listed w b lent = test (searchMeets9 w (rangeOfBox b)) ++ responses (listCall w b lent .answer)
+listed w b lent = test (searchMeets9 w (rangeOfBox b)) ++ responses (listCall w b Touching lent .answer)
 
 abbrev decided : List ℕ → ℕ → ℕ → ℕ → List ℕ
 decided w staff door quarter =

@@ -13,6 +13,7 @@ use Rattle.lists.specs.Tests.{filter, every, any}
 use Rattle.lists.specs.Sort.{insertBy}
 use Rattle.lists.specs.Overwrite.{overwrite}
 use Rattle.model.specs.Overlap.{overlaps}
+use Rattle.model.specs.Relation.{holdsBox, relationOf, takes}
 use Rattle.model.specs.Arguments.{reversedBox}
 use Rattle.model.specs.Decide.{outranks, decidingOf, decideAmong}
 use Rattle.model.specs.Refusal.{firstFault, refusing}
@@ -51,8 +52,8 @@ lent = replicate 2048 0
 
 pub marked-session : sessionText bookStep (emptyBook 2048) lent (map ascii input) ≡ ascii output
 unfolding sessionText lineStep parseLine fieldsSlip letterSlip numbers fields decimal isNumber valueAfter every
-    bookStep bookGrant bookRevoke bookList bookDecide bookCount refusing firstFault reversedBox overlaps insertBy filter any overwrite outranks
-    decidingOf decideAmong numeral digitsBy eachAfterBlank
+    bookStep bookGrant bookRevoke bookList bookDecide bookCount refusing firstFault reversedBox overlaps holdsBox relationOf takes insertBy filter any overwrite
+    outranks decidingOf decideAmong numeral digitsBy eachAfterBlank
 marked-session = refl
 
 -- the program's memory, of zeros, is of that size

@@ -20,6 +20,8 @@ use Rattle.lists.proofs.OrLaws.{or-false-iff}
 use Rattle.lists.proofs.ListLaws.{countFrom-mem, flatMap-append}
 use Rattle.model.specs.declared.Box.{Box}
 use Rattle.model.specs.declared.Grant.{Grant}
+use Rattle.model.specs.declared.Choice.{Choice}
+use Rattle.model.specs.Relation.{taken}
 use Rattle.model.specs.declared.Fault.{Fault}
 use Rattle.model.specs.declared.Kind.{Kind}
 use Rattle.model.specs.declared.Kind.the-variants.{Bars, Opens}
@@ -88,15 +90,15 @@ revoke-fits : (w : List ℕ) (n : ℕ) → Fits (revokeCall w n .answer)
 unfolding revokeCall revokeOrder every
 revoke-fits w n = call-fits Fits fault-fits _ w [] _ (small-all _ refl) (λ e. lit< tt)
 
-list-fits : (w : List ℕ) (q : Box) (lent : List ℕ) → Fits (listCall w q lent .answer)
+list-fits : (w : List ℕ) (q : Box) (choice : Choice) (lent : List ℕ) → Fits (listCall w q choice lent .answer)
 unfolding listCall listOrder every
-list-fits w q lent =
+list-fits w q choice lent =
     call-fits Fits fault-fits _ w lent _
     (small-first _ _ (lit< tt)
     (λ right.
-    let few = hits-most w (rangeOfBox q) (inRange (rangeOfBox q)) right in
-    small-all _ (rw (lt-ltb (length (hitsOf (boxSearch w q))) aValues (omega arith)))))
-    (λ e. omega (arith, hits-most w (rangeOfBox q) (inRange (rangeOfBox q)) (causes-absent _ _ e .0)))
+    let few = hits-most w (rangeOfBox q) (taken choice q) right in
+    small-all _ (rw (lt-ltb (length (hitsOf (boxSearch w q choice))) aValues (omega arith)))))
+    (λ e. omega (arith, hits-most w (rangeOfBox q) (taken choice q) (causes-absent _ _ e .0)))
 
 -- 0, 1 or 2
 decision-fits : (gs : List Grant) → Fits (decisionAnswer (decideAmong gs))

@@ -25,11 +25,13 @@ use Rattle.lists.specs.Sort.{insertBy, sortBy}
 use Rattle.lists.proofs.TestLaws.{T-iff, every-all}
 use Rattle.model.specs.declared.Box.{Box}
 use Rattle.model.specs.declared.Grant.{Grant}
+use Rattle.model.specs.declared.Choice.the-variants.{Touching}
 use Rattle.model.specs.declared.Fault.the-variants.{BadLength}
 use Rattle.model.specs.declared.Kind.the-variants.{Bars, Opens}
 use Rattle.model.specs.Interval.{Interval, holds}
 use Rattle.model.specs.Box.{boxValues}
 use Rattle.model.specs.Overlap.{overlaps}
+use Rattle.model.specs.Relation.{holdsBox, relationOf, takes}
 use Rattle.model.specs.Grant.{touches}
 use Rattle.model.specs.Answer.{accepted}
 use Rattle.model.specs.Refusal.{firstFault, refusing}
@@ -154,9 +156,11 @@ pub refused-met : blockCall [] 0 .answer ≢ accepted []
 unfolding blockCall refusing readCauses notInFile wrongBlockCount firstFault
 refused-met e = refusal-accepted BadLength [] e
 
-pub list-met : listCall (wordsAfter memory calls) (box 0 65535 1 40 0 65535) (0 ∷ []) .answer ≡ accepted (1 ∷ [])
-unfolding after bookStep bookGrant bookList refusing firstFault insertBy filter any overlaps reversedBox
-list-met = ap (λ (t : Response). t .answer) (list-refines (made-represents (made-calls memory-met calls calls-met)) (box 0 65535 1 40 0 65535) (0 ∷ []) .same)
+pub list-met : listCall (wordsAfter memory calls) (box 0 65535 1 40 0 65535) Touching (0 ∷ []) .answer ≡ accepted (1 ∷ [])
+unfolding after bookStep bookGrant bookList refusing firstFault insertBy filter any overlaps holdsBox relationOf takes reversedBox
+list-met =
+    let made = made-represents (made-calls memory-met calls calls-met) in
+    ap (λ (t : Response). t .answer) (list-refines made (box 0 65535 1 40 0 65535) Touching (0 ∷ []) .same)
 
 pub room-met : length (touching doors (liveAfter 2 calls)) ≤ 2
 unfolding after bookStep bookGrant refusing firstFault insertBy filter any reversedBox

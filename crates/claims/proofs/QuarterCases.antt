@@ -10,6 +10,7 @@ use lib.ListN.{getD, replicate}
 use Rattle.model.specs.declared.Box.{Box}
 use Rattle.model.specs.declared.Grant.{Grant}
 use Rattle.model.specs.declared.Kind.the-variants.{Opens}
+use Rattle.model.specs.declared.Choice.the-variants.{Touching}
 use Rattle.model.specs.Interval.{Interval}
 use Rattle.model.specs.Quarters.{Quarters, noQuarters}
 use Rattle.model.specs.Overlap.{overlapInTime}
@@ -82,7 +83,8 @@ granted from to = responses (bookGrant (emptyBook 1) (asked from to) .answer) ++
 
 abbrev listed : ℕ → ℕ → List ℕ
 listed from to =
-    responses (bookList (bookOf 1 (given 5 9 ∷ [])) (within from to) (one 0) .answer) ++ responses (listCall (words 5 9) (within from to) (one 0) .answer)
+    responses (bookList (bookOf 1 (given 5 9 ∷ [])) (within from to) Touching (one 0) .answer)
+    ++ responses (listCall (words 5 9) (within from to) Touching (one 0) .answer)
 
 abbrev doors : Interval
 doors = record { from = 3; to = 3 }
@@ -146,7 +148,7 @@ abbrev cell : ℕ → ℕ → List ℕ
 cell from to = pool 1 1 0 (0 ∷ 0 ∷ 7 ∷ 21 ∷ 8 ∷ 8 ∷ 3 ∷ 3 ∷ from ∷ to ∷ [])
 
 abbrev hit : List ℕ → ℕ → ℕ → List ℕ
-hit w from to = responses (listCall w (within from to) (one 0) .answer)
+hit w from to = responses (listCall w (within from to) Touching (one 0) .answer)
 
 abbrev cellCases : List Case
 cellCases =

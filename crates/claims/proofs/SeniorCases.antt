@@ -9,6 +9,7 @@ use mathlib.Core.List.{List, [], _∷_, _++_}
 use lib.ListN.{take, drop, replicate}
 use Rattle.model.specs.declared.Grant.{Grant}
 use Rattle.model.specs.declared.Kind.the-variants.{Opens}
+use Rattle.model.specs.declared.Choice.the-variants.{Touching}
 use Rattle.model.specs.Interval.{Interval}
 use Rattle.model.specs.Call.{Request}
 use Rattle.model.specs.Book.{bookOf, emptyBook, bookGrant}
@@ -100,7 +101,7 @@ wide = pool 1 1 0 (0 ∷ 0 ∷ 5 ∷ 7 ∷ 8 ∷ 8 ∷ 0 ∷ 65535 ∷ 2 ∷ 3 �
 
 abbrev cellCases : List Case
 cellCases =
-    record { given = let s = listCall wide (box 8 8 40 40 2 3) (9 ∷ 9 ∷ []) in responses (s .answer) ++ s .lent; wanted = 0 ∷ 1 ∷ 5 ∷ 9 ∷ [] }
+    record { given = let s = listCall wide (box 8 8 40 40 2 3) Touching (9 ∷ 9 ∷ []) in responses (s .answer) ++ s .lent; wanted = 0 ∷ 1 ∷ 5 ∷ 9 ∷ [] }
     ∷ record { given = responses (decideCall wide 8 40 2 .answer); wanted = 0 ∷ 1 ∷ 5 ∷ 3 ∷ 1 ∷ 8 ∷ 8 ∷ 0 ∷ 65535 ∷ 2 ∷ 3 ∷ [] }
     ∷ record { given = responses (countCall wide .answer); wanted = 0 ∷ 1 ∷ 0 ∷ [] }
     -- the file has its record, behind the mark, the block's number and the count

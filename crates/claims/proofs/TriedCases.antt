@@ -4,6 +4,8 @@
 --   linkCases     of LinkCases: fault 9 on scrambled pools, by the links and by the calls
 --   faultCases    of FaultCases: faults 1, 10, 11 and 14
 --   seniorCases   of SeniorCases: fault 16, and records and cells that break its rule
+--   quarterCases  of QuarterCases: the ends of quarters
+--   holdingCases  of HoldingCases: how a grant stands to a box, and list's choice
 use Prim.Native.Nat.{ℕ, _+_, _-_, _*_, _%_, _/_}
 use mathlib.Core.Bool.{Bool, true, false, cond}
 use mathlib.Core.List.{List, [], _∷_, _++_, map, flatMap}
@@ -14,11 +16,13 @@ use Rattle.lists.specs.Tests.{filter, every, any, each, sameNumbers}
 use Rattle.lists.specs.Ranges.{countFrom}
 use Rattle.lists.specs.Overwrite.{overwrite}
 use Rattle.lists.specs.Sort.{insertBy, sortBy}
+use Rattle.model.specs.declared.Choice.the-variants.{Touching}
 use Rattle.model.specs.declared.Fault.{Fault}
 use Rattle.model.specs.declared.Grant.{Grant}
 use Rattle.model.specs.declared.Kind.the-variants.{Bars, Opens}
 use Rattle.model.specs.Interval.{Interval}
 use Rattle.model.specs.Overlap.{overlaps}
+use Rattle.model.specs.Relation.{holdsBox, relationOf, takes}
 use Rattle.model.specs.Grant.{grantValues, sameGrant, touches}
 use Rattle.model.specs.Answer.{Answer}
 use Rattle.model.specs.Refusal.{Step, firstFault, refusing}
@@ -35,7 +39,7 @@ use Rattle.pool.specs.Layout.{place, fieldOf}
 use Rattle.pool.specs.Capacity.{capacityOf, wrongLength, wrongPool}
 use Rattle.pool.specs.Cell.{grantAt, cellOf, withCell}
 use Rattle.pool.specs.Fresh.{freeCells, freshPool}
-use Rattle.adt.specs.Search.{Search, broken, going, meet, visitBy, enter, searchBy, search}
+use Rattle.adt.specs.Search.{Search, broken, going, meet, visitBy, enter, searchBy}
 use Rattle.adt.specs.Insert.{descendFrom, descend, freeBroken, inserted}
 use Rattle.adt.specs.Remove.{follow, terminalFrom, replaced, unlinked, freed, removed}
 use Rattle.adt.specs.Links.{brokenBy, searchFrom, insertionFrom, removalFrom, searchLinks, insertionLinks, removalLinks, freeLinks, hitsAmong}
@@ -47,7 +51,7 @@ use Rattle.grants_file.specs.Defects.{recordsDefects, lastBefore, contentDefect
 use Rattle.grants_file.specs.Verdict.{fileCauses}
 use Rattle.block_read.specs.BlockRead.{notInFile, wrongCount, restDefects, readCauses, partOf, blockCall}
 use Rattle.calls.specs.Causes.{grantBroken, revokeBroken}
-use Rattle.calls.specs.LinkCauses.{searchMeets9, pointMeets9, hitsBy, searchHits, grantMeets9, revokeMeets9}
+use Rattle.calls.specs.LinkCauses.{searchMeets9, pointMeets9, hitsBy, grantMeets9, revokeMeets9}
 use Rattle.calls.specs.Order.{startOrder, grantOrder, revokeOrder, listOrder, lookOrder, writeOrder, loadOrder, matchOrder}
 use Rattle.calls.specs.Calls.{startCall, grantCall, revokeCall, listCall, decideCall, countCall, wordsStep}
 use Rattle.calls.specs.FileCalls.{writeCall, grantAll, loadCall, firstDifference, matchCall}
@@ -58,6 +62,7 @@ use Rattle.claims.proofs.LinkCases.{linkCases}
 use Rattle.claims.proofs.FaultCases.{faultCases}
 use Rattle.claims.proofs.SeniorCases.{seniorCases}
 use Rattle.claims.proofs.QuarterCases.{quarterCases}
+use Rattle.claims.proofs.HoldingCases.{holdingCases}
 
 -- document 01's two grants of the slips
 abbrev seven : Request
@@ -77,8 +82,8 @@ calls =
     ∷ grant three
     ∷ grant nine
     ∷ grant seven
-    ∷ list (box 0 65535 0 65535 0 65535) (1 ∷ 1 ∷ [])
-    ∷ list (box 150 150 1 20 40 41) (1 ∷ 1 ∷ 1 ∷ [])
+    ∷ list (box 0 65535 0 65535 0 65535) Touching (1 ∷ 1 ∷ [])
+    ∷ list (box 150 150 1 20 40 41) Touching (1 ∷ 1 ∷ 1 ∷ [])
     ∷ decide 150 12 40
     ∷ revoke 7
     ∷ revoke 7
@@ -90,7 +95,7 @@ calls =
     ∷ grant (record { number = 1; rank = 0; kind = 0; bounds = box 0 0 2 1 0 1 })
     ∷ grant seven
     ∷ grant (record { number = 1; rank = 0; kind = 0; bounds = box 0 0 1 1 0 1 })
-    ∷ list (box 0 65535 0 65535 0 65535) (1 ∷ 1 ∷ 1 ∷ 1 ∷ [])
+    ∷ list (box 0 65535 0 65535 0 65535) Touching (1 ∷ 1 ∷ 1 ∷ 1 ∷ [])
     ∷ []
 
 -- two grants of one rank that overlap
@@ -266,14 +271,14 @@ cases =
     ∷ record { given = say.responses (loadCall (replicate 13 1) (fileOf doors two) .answer); wanted = one 6 }
     ∷ []
 
-pub tried-cases : T (passed (cases ++ linkCases ++ faultCases ++ seniorCases ++ quarterCases))
-unfolding filter every any each sameNumbers countFrom overwrite insertBy sortBy overlaps sameGrant firstFault refusing reversedBox outranks decidingOf
-    decideAmong bookGrant bookRevoke bookList bookDecide bookCount bookStep rootRegion half meets pointOf inside rangeOfBox rangeOfDoors rangeOfNumber
-    place fieldOf capacityOf wrongLength wrongPool grantAt withCell freeCells freshPool meet visitBy enter searchBy descendFrom descend freeBroken inserted
-    follow terminalFrom replaced unlinked freed removed brokenBy searchFrom insertionFrom removalFrom searchLinks insertionLinks removalLinks freeLinks
-    hitsAmong searchMeets9 pointMeets9 hitsBy grantMeets9 revokeMeets9 grantBroken revokeBroken startOrder grantOrder revokeOrder listOrder lookOrder
-    startCall grantCall revokeCall listCall decideCall countCall wordsStep responses after base256 checksum encodeRecord decodeRecord sealed headerBlock
-    recordBlock recordsOf wrongChecksum wrongPadding fileOf grantsIn wrongBlockCount recordsDefects lastBefore contentDefects fileDefects fileCauses
-    notInFile wrongCount restDefects readCauses partOf writeOrder loadOrder matchOrder writeCall grantAll loadCall firstDifference matchCall
-    blockCall mathlib.Core.List.flatMap
+pub tried-cases : T (passed (cases ++ linkCases ++ faultCases ++ seniorCases ++ quarterCases ++ holdingCases))
+unfolding filter every any each sameNumbers countFrom overwrite insertBy sortBy overlaps holdsBox relationOf takes sameGrant firstFault refusing
+    reversedBox outranks decidingOf decideAmong bookGrant bookRevoke bookList bookDecide bookCount bookStep rootRegion half meets pointOf inside
+    rangeOfBox rangeOfDoors rangeOfNumber place fieldOf capacityOf wrongLength wrongPool grantAt withCell freeCells freshPool meet visitBy enter
+    searchBy descendFrom descend freeBroken inserted follow terminalFrom replaced unlinked freed removed brokenBy searchFrom insertionFrom removalFrom
+    searchLinks insertionLinks removalLinks freeLinks hitsAmong searchMeets9 pointMeets9 hitsBy grantMeets9 revokeMeets9 grantBroken revokeBroken
+    startOrder grantOrder revokeOrder listOrder lookOrder startCall grantCall revokeCall listCall decideCall countCall wordsStep responses after
+    base256 checksum encodeRecord decodeRecord sealed headerBlock recordBlock recordsOf wrongChecksum wrongPadding fileOf grantsIn wrongBlockCount
+    recordsDefects lastBefore contentDefects fileDefects fileCauses notInFile wrongCount restDefects readCauses partOf writeOrder loadOrder matchOrder
+    writeCall grantAll loadCall firstDifference matchCall blockCall mathlib.Core.List.flatMap
 tried-cases = tt

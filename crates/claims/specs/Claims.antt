@@ -1,7 +1,7 @@
 -- The claims: the three demands of document 00, as types. Nothing is assumed but what each type names before its arrow.
 --   MadePools  what KeepsGrants promises of an index holds of every pool that calls made, with its live grants; the demands follow
 --   Demand1    each call is refused under its fault, and else accepted; made pools never give 9
---   Demand2    a hit is condition (5); the accepted files; load, match, one byte changed; the parts that block read hands back
+--   Demand2    the search range is condition (5); the accepted files; load, match, one byte changed; the parts that block read hands back
 --   Demand3    every list of calls has the plain book's responses, on one tree, through every file
 -- Which field refuses each of the useless programs that document 01 lists ("Worthless versions"):
 --   nothing is ever listed or decided             Demand2 .lists, .decisions; Demand3 .answers
@@ -23,6 +23,7 @@ use lib.Dec.{T}
 use lib.ListN.{length, getD, set}
 use Rattle.model.specs.declared.Box.{Box}
 use Rattle.model.specs.declared.Grant.{Grant}
+use Rattle.model.specs.declared.Choice.{Choice}
 use Rattle.model.specs.declared.Fault.the-variants.{BadPool, Reversed, BadChecksum}
 use Rattle.model.specs.Interval.{Interval}
 use Rattle.model.specs.Overlap.{Overlap}
@@ -43,7 +44,7 @@ use Rattle.grants_file.specs.File.{chunk, fileOf, blocksIn, doorsIn, grantsIn}
 use Rattle.block_read.specs.BlockRead.{readCauses, partOf, blockCall}
 use Rattle.grants_file.specs.FileSets.{Accepted, FileSet, Ordering}
 use Rattle.openings.specs.Compare.{openingsOrder, compareCall}
-use Rattle.calls.specs.LinkCauses.{searchMeets9, pointMeets9, searchHits, grantMeets9, revokeMeets9}
+use Rattle.calls.specs.LinkCauses.{searchMeets9, pointMeets9, searchHits, boxHits, grantMeets9, revokeMeets9}
 use Rattle.calls.specs.Order.{startOrder, grantOrder, revokeOrder, listOrder, lookOrder, writeOrder, loadOrder, matchOrder}
 use Rattle.calls.specs.Calls.{startCall, grantCall, revokeCall, listCall, decideCall, countCall, wordsStep}
 use Rattle.calls.specs.FileCalls.{writeCall, grantAll, loadCall, matchCall}
@@ -78,10 +79,11 @@ Demand3 = (c : ℕ) (memory : List ℕ) (calls : List Call) → Memory c memory 
 
 -- DEMAND 2
 pub record Demand2 : Type 0 where
-  -- a hit is condition (5), for every box that fault 2 lets through; list refuses the others on every pool
+  -- the search range of a box holds the points of the grants that overlap it, condition (5), for every box that fault 2 lets through; list refuses
+  -- the others on every pool
   pub hits : (g : Grant) (q : Box) → GrantFits g → reversedBox q ≡ false → T (inside (rangeOfBox q) (pointOf g)) ↔ Overlap (g .bounds) q
-  pub refused-boxes : (w : List ℕ) (q : Box) (lent : List ℕ) → reversedBox q ≡ true
-      → listCall w q lent .answer ≡ cond (wrongPool w) (refusal BadPool) (refusal Reversed)
+  pub refused-boxes : (w : List ℕ) (q : Box) (choice : Choice) (lent : List ℕ) → reversedBox q ≡ true
+      → listCall w q choice lent .answer ≡ cond (wrongPool w) (refusal BadPool) (refusal Reversed)
   -- from it come list and decide, after any calls, and match against the file of any doors and set
   pub lists : (c : ℕ) (memory : List ℕ) (calls : List Call) → Memory c memory → CallsFit calls
       → ListsGrants (wordsAfter memory calls) (liveAfter c calls)
@@ -117,8 +119,8 @@ pub record Demand1 : Type 0 where
   pub grant : (w : List ℕ) (r : Request)
       → Judged (grantOrder w r (grantMeets9 w r) (searchHits w (rangeOfNumber (r .number)))) w [] (grantCall w r)
   pub revoke : (w : List ℕ) (n : ℕ) → Judged (revokeOrder w n (revokeMeets9 w n) (searchHits w (rangeOfNumber n))) w [] (revokeCall w n)
-  pub list : (w : List ℕ) (q : Box) (lent : List ℕ)
-      → Judged (listOrder w q lent (searchMeets9 w (rangeOfBox q)) (searchHits w (rangeOfBox q))) w lent (listCall w q lent)
+  pub list : (w : List ℕ) (q : Box) (choice : Choice) (lent : List ℕ)
+      → Judged (listOrder w q lent (searchMeets9 w (rangeOfBox q)) (boxHits w q choice)) w lent (listCall w q choice lent)
   pub decide : (w : List ℕ) (staff door quarter : ℕ)
       → Judged (lookOrder w (pointMeets9 w staff door quarter)) w [] (decideCall w staff door quarter)
   pub count : (w : List ℕ) → Judged (lookOrder w (searchMeets9 w rangeOfAll)) w [] (countCall w)
@@ -129,8 +131,8 @@ pub record Demand1 : Type 0 where
   pub block : (f : List ℕ) (i : ℕ) → Judged (readCauses f i) f [] (blockCall f i)
   pub compare : (door panel : List ℕ) → Judged (openingsOrder door panel) door panel (compareCall door panel)
   -- every call but start, load, grant and revoke leaves the pool as it was
-  pub keeps-pool : (w : List ℕ) (q : Box) (doors : Interval) (lent f : List ℕ) (staff door quarter : ℕ)
-      → (listCall w q lent .state ≡ w) × (decideCall w staff door quarter .state ≡ w) × (countCall w .state ≡ w)
+  pub keeps-pool : (w : List ℕ) (q : Box) (choice : Choice) (doors : Interval) (lent f : List ℕ) (staff door quarter : ℕ)
+      → (listCall w q choice lent .state ≡ w) × (decideCall w staff door quarter .state ≡ w) × (countCall w .state ≡ w)
       × (writeCall w doors lent .state ≡ w) × (matchCall w f .state ≡ w)
   -- on a pool that start or load and later calls made, no call gives 9, nor 1
   pub never-broken : (c : ℕ) (w : List ℕ) (gs : List Grant) → Made c w gs → NeverBroken w

@@ -1,6 +1,6 @@
 -- What is promised of an index whose live grants are gs: its tree, its answers, its files (document 00, demands 1 to 3, of one index).
 -- w are its words, c its cells.
---   ListsGrants w gs     list writes the numbers of the overlapping grants          ListsOverlapping: of one list
+--   ListsGrants w gs     list writes the numbers of the grants that its choice takes  ListsChosen: of one list
 --   DecidesAmong w gs    decide's answer is the foremost of those at the point      Decides: of one grant
 --   MatchesFiles w gs    match finds where they differ from a file                  MatchesSet: from one
 --   WritesFiles w gs     write gives the file of any doors                          Writes: one file
@@ -19,11 +19,13 @@ use Rattle.lists.specs.Tests.{filter}
 use Rattle.lists.specs.Overwrite.{overwrite}
 use Rattle.model.specs.declared.Box.{Box}
 use Rattle.model.specs.declared.Grant.{Grant}
+use Rattle.model.specs.declared.Choice.{Choice}
 use Rattle.model.specs.declared.Fault.the-variants.{BadPool, BrokenLinks}
 use Rattle.model.specs.declared.Decision.the-variants as decision
 use Rattle.model.specs.Interval.{Interval, holds}
 use Rattle.model.specs.Box.{doorsOf, pointBox}
 use Rattle.model.specs.Overlap.{Overlap}
+use Rattle.model.specs.Relation.{Chosen}
 use Rattle.model.specs.Grant.{touches}
 use Rattle.model.specs.Answer.{Answer, accepted, refusal, decisionAnswer}
 use Rattle.model.specs.Decide.{decisionOf}
@@ -40,14 +42,16 @@ use Rattle.calls.specs.Calls.{grantCall, revokeCall, listCall, decideCall, word
 use Rattle.calls.specs.FileCalls.{writeCall, loadCall, matchCall}
 use Rattle.claims.specs.Made.{Memory}
 
--- what list wrote is the numbers of the overlapping grants, each above the one before
-pub record ListsOverlapping (gs : List Grant) (q : Box) (numbers : List ℕ) : Type 0 where
-  pub member : (n : ℕ) → List·Memᴰ n numbers ↔ ((g : Grant) × List·Memᴰ g gs × (g .number ≡ n) × Overlap (g .bounds) q)
+-- what list wrote is the numbers of the grants that touch the box, or of those that hold it, each above the one before
+pub record ListsChosen (gs : List Grant) (q : Box) (choice : Choice) (numbers : List ℕ) : Type 0 where
+  pub member : (n : ℕ) → List·Memᴰ n numbers ↔ ((g : Grant) × List·Memᴰ g gs × (g .number ≡ n) × Chosen choice (g .bounds) q)
   pub rising : (i j : ℕ) → i < j → j < length numbers → getD numbers i 0 < getD numbers j 0
 
 abbrev pub ListsGrants : List ℕ → List Grant → Type 0
 ListsGrants w gs =
-    (q : Box) (lent : List ℕ) (n : ℕ) → let r = listCall w q lent in r .answer ≡ accepted (n ∷ []) → ListsOverlapping gs q (take n (r .lent))
+    (q : Box) (choice : Choice) (lent : List ℕ) (n : ℕ)
+    → let r = listCall w q choice lent in
+    r .answer ≡ accepted (n ∷ []) → ListsChosen gs q choice (take n (r .lent))
 
 -- the grant g of gs decides at the point: of those that overlap it none has a higher rank, and none of its rank a higher number
 pub record Decides (gs : List Grant) (q : Box) (g : Grant) : Type 0 where
@@ -85,9 +89,9 @@ Writes w doors f =
 abbrev pub WritesFiles : List ℕ → List Grant → Type 0
 WritesFiles w gs = (doors : Interval) → DoorRange doors → Writes w doors (fileOf doors (touching doors gs))
 
--- the call is a question about doors inside the range: list's box has both its doors there, decide's point its door
+-- the call is a question about doors inside the range: list's box has both its doors there, whatever its choice, decide's point its door
 abbrev pub Asks : Interval → Call → Type 0
-Asks doors (list q lent) = T (holds doors (doorsOf q .from)) × T (holds doors (doorsOf q .to))
+Asks doors (list q choice lent) = T (holds doors (doorsOf q .from)) × T (holds doors (doorsOf q .to))
 Asks doors (decide staff door quarter) = T (holds doors door)
 Asks doors (grant r) = ⊥
 Asks doors (revoke n) = ⊥

@@ -12,6 +12,7 @@ use mathlib.Core.Bool.{cond}
 use mathlib.Core.List.{List}
 use lib.Dec.{eqb}
 use Rattle.model.specs.declared.Box.{Box}
+use Rattle.model.specs.declared.Choice.{Choice}
 use Rattle.model.specs.Interval.{Interval}
 use Rattle.model.specs.Answer.{Answer, accepted, refused}
 use Rattle.model.specs.Call.{Request}
@@ -53,7 +54,7 @@ pub record AnswersFit : Type 0 where
   pub start : (w : List ℕ) → Fits (startCall w .answer)
   pub grant : (w : List ℕ) (r : Request) → Fits (grantCall w r .answer)
   pub revoke : (w : List ℕ) (n : ℕ) → Fits (revokeCall w n .answer)
-  pub list : (w : List ℕ) (q : Box) (lent : List ℕ) → Fits (listCall w q lent .answer)
+  pub list : (w : List ℕ) (q : Box) (choice : Choice) (lent : List ℕ) → Fits (listCall w q choice lent .answer)
   pub decide : (w : List ℕ) (staff door quarter : ℕ) → Fits (decideCall w staff door quarter .answer)
   pub count : (w : List ℕ) → FitsPair (countCall w .answer)
   pub write : (w : List ℕ) (doors : Interval) (lent : List ℕ) → FitsLength (writeCall w doors lent .answer)

@@ -9,12 +9,16 @@ use console::output::put_number;
 use model::Fault;
 
 // The quarter's number, with its day and time beside it.
-pub fn say_quarter(out: Stream, base: Base, quarter: u16) -> Stream {
+pub fn say_moment(out: Stream, base: Base, quarter: u16) -> Stream {
     let mut text = [0u8; NOTE_BYTES];
     let n = moment_text(base, quarter, &mut text);
-    let named = put(out, b", quarter ");
-    let numbered = put_number(named, quarter as usize);
+    let numbered = put_number(out, quarter as usize);
     put(numbered, &text[..n])
+}
+
+// The same, after a door.
+pub fn say_quarter(out: Stream, base: Base, quarter: u16) -> Stream {
+    say_moment(put(out, b", quarter "), base, quarter)
 }
 
 // A refusal as an answer.

@@ -1,5 +1,6 @@
 // The commands of the program of the three levels: each reads its files, calls the proved libraries and prints what they answer.
 mod common;
+mod covers;
 pub mod cut;
 mod defects;
 mod head_office;
@@ -11,5 +12,6 @@ mod pages;
 pub mod panel_loop;
 mod replaced;
 pub mod report;
+mod shown;
 mod table;
 mod who;

@@ -46,15 +46,23 @@ pub fn say_all() -> Stream {
 pub fn say_questions(out: Stream) -> Stream {
     let out = put(
         out,
-        b"  who DOOR QUARTER        every grant that touches the door then\n",
+        b"  who DOOR QUARTER           every grant that touches the door then\n",
     );
     let out = put(
         out,
-        b"  may STAFF DOOR QUARTER  whether this staff number may open it then\n",
+        b"  may STAFF DOOR QUARTER     whether this staff number may open it then\n",
     );
     let out = put(
         out,
-        b"  for QUARTER also a day and time, as 2026-01-31 10:00, if the base day is known\n",
+        b"  covers STAFF DOOR FROM TO  every grant that holds all of it, from FROM until TO\n",
+    );
+    let out = put(
+        out,
+        b"  for QUARTER also a day and time, as 2026-01-31 10:00, if the base day is known;\n",
+    );
+    let out = put(
+        out,
+        b"  for FROM and TO likewise, both; TO is the first quarter no longer covered\n",
     );
     put(out, b"  Enter: more of the same; help; quit\n\n")
 }
@@ -72,7 +80,7 @@ pub fn say_panel() -> Stream {
     );
     let out = put(
         out,
-        b"time stand beside each quarter. A grant that a higher one overrides is shown so:\n",
+        b"time stand beside each quarter. who marks a grant that a higher one overrides:\n",
     );
     let out = put(
         out,

@@ -1,10 +1,14 @@
 // The attendant's panel: a bank's file is loaded, and questions that are typed in are answered, one a screenful.
+use crate::covers::say_covers;
+use crate::covers::say_holding;
+use crate::covers::shift_box;
 use crate::may::say_may;
 use crate::pages::say_questions;
 use crate::report::refuse;
 use crate::report::say_contents;
-use crate::who::Shown;
-use crate::who::none_shown;
+use crate::shown::Pending;
+use crate::shown::Shown;
+use crate::shown::none_shown;
 use crate::who::say_rows;
 use crate::who::say_who;
 use base_day::GivenBase;
@@ -22,6 +26,7 @@ use console::status::Ending;
 use file_calls::load::load;
 use file_contents::door_range::has_door;
 use libc::STDIN_FILENO;
+use model::Box;
 use model::Outcome;
 use pool::layout::MAX_WORDS;
 use question::Question;
@@ -47,17 +52,16 @@ fn answer_who(pool: &[u16], file: &[u8], base: Base, door: u16, quarter: u16) ->
     if !say_who(base, door, quarter).whole {
         return none_shown(false);
     }
-    say_rows(
-        pool,
-        base,
-        Shown {
-            whole: true,
-            left: true,
-            door,
-            quarter,
-            rows: 0,
-        },
-    )
+    say_rows(pool, base, door, quarter, 0)
+}
+
+// Answers `covers`. Gives what has been shown of it.
+fn answer_covers(pool: &[u16], file: &[u8], base: Base, bounds: Box) -> Shown {
+    let door = bounds.door_from;
+    if !has_door(file, door) {
+        return none_shown(say_foreign(file, door).whole);
+    }
+    say_covers(pool, file, base, bounds)
 }
 
 fn answer_may(pool: &[u16], file: &[u8], base: Base, staff: u16, door: u16, quarter: u16) -> Shown {
@@ -67,21 +71,22 @@ fn answer_may(pool: &[u16], file: &[u8], base: Base, staff: u16, door: u16, quar
     none_shown(say_foreign(file, door).whole)
 }
 
-// Goes on with the last `who`.
-fn answer_more(pool: &[u16], base: Base, shown: Shown) -> Shown {
-    if shown.left {
-        return say_rows(pool, base, shown);
+// Goes on with the last answer in rows.
+fn answer_more(pool: &[u16], file: &[u8], base: Base, shown: Shown) -> Shown {
+    let pending = shown.pending;
+    match pending {
+        Pending::None => shown,
+        Pending::Who { door, quarter } => say_rows(pool, base, door, quarter, shown.rows),
+        Pending::Covers(bounds) => say_holding(pool, file, bounds, shown.rows),
     }
-    shown
 }
 
-// What has been shown of the last `who`, after an answer of another kind.
+// What has been shown of the last answer in rows, after an answer of another kind.
 fn kept(out: Stream, shown: Shown) -> Shown {
+    let pending = shown.pending;
     Shown {
         whole: out.whole,
-        left: shown.left,
-        door: shown.door,
-        quarter: shown.quarter,
+        pending,
         rows: shown.rows,
     }
 }
@@ -91,7 +96,7 @@ fn advise(text: &[u8], shown: Shown) -> Shown {
     kept(put(put(answers(), text), b"\n\n"), shown)
 }
 
-// Answers a question. Gives what has been shown of the last `who`.
+// Answers a question. Gives what has been shown of the last answer in rows.
 fn answer(pool: &[u16], file: &[u8], base: Base, asked: Question, shown: Shown) -> Shown {
     match asked {
         Question::Who { door, quarter } => answer_who(pool, file, base, door, quarter),
@@ -100,7 +105,13 @@ fn answer(pool: &[u16], file: &[u8], base: Base, asked: Question, shown: Shown) 
             door,
             quarter,
         } => answer_may(pool, file, base, staff, door, quarter),
-        Question::More => answer_more(pool, base, shown),
+        Question::Covers {
+            staff,
+            door,
+            from,
+            to,
+        } => answer_covers(pool, file, base, shift_box(staff, door, from, to)),
+        Question::More => answer_more(pool, file, base, shown),
         Question::Help => kept(say_questions(answers()), shown),
         Question::Quit => shown,
         Question::NoBase => advise(
@@ -108,7 +119,7 @@ fn answer(pool: &[u16], file: &[u8], base: Base, asked: Question, shown: Shown) 
             shown,
         ),
         Question::Bad => advise(
-            b"not understood: type who DOOR QUARTER, or may STAFF DOOR QUARTER; help tells more",
+            b"not understood: type who DOOR QUARTER, may STAFF DOOR QUARTER, or covers STAFF DOOR FROM TO; help tells more",
             shown,
         ),
     }
@@ -119,6 +130,7 @@ fn is_quit(asked: Question) -> bool {
         Question::Quit => true,
         Question::Who { .. } => false,
         Question::May { .. } => false,
+        Question::Covers { .. } => false,
         Question::More => false,
         Question::Help => false,
         Question::NoBase => false,

@@ -1,6 +1,11 @@
 // The panel's screens of who may open a door at a quarter.
 use crate::common::say_fault;
 use crate::common::say_quarter;
+use crate::shown::Pending;
+use crate::shown::SCREEN;
+use crate::shown::Shown;
+use crate::shown::none_shown;
+use crate::shown::say_more;
 use calendar::Base;
 use console::output::Stream;
 use console::output::answers;
@@ -10,29 +15,6 @@ use panel::rows::ROW_BYTES;
 use panel::rows::touching_row;
 use panel::touching::Touching;
 use panel::touching::touching_at;
-
-// So many grants are shown at a time.
-const SCREEN: usize = 16;
-
-// The door and quarter last asked about, and how many of their grants have been shown; `left` while there are more. `whole` where all that was
-// to be shown has been written.
-pub struct Shown {
-    pub whole: bool,
-    pub left: bool,
-    pub door: u16,
-    pub quarter: u16,
-    pub rows: usize,
-}
-
-pub fn none_shown(whole: bool) -> Shown {
-    Shown {
-        whole,
-        left: false,
-        door: 0,
-        quarter: 0,
-        rows: 0,
-    }
-}
 
 // One row: whether there was one and it was written; and whether all was written.
 struct Row {
@@ -108,20 +90,12 @@ fn end_screen(pool: &[u16], door: u16, quarter: u16, rows: usize) -> Shown {
     if !is_row(pool, door, quarter, rows) {
         return none_shown(say_total(answers(), rows).whole);
     }
-    Shown {
-        whole: put(answers(), b"more: press Enter\n\n").whole,
-        left: true,
-        door,
-        quarter,
-        rows,
-    }
+    say_more(Pending::Who { door, quarter }, rows)
 }
 
 // A screenful of rows, from the first that has not been shown. Gives how many have been shown then, and whether more are left.
-pub fn say_rows(pool: &[u16], base: Base, shown: Shown) -> Shown {
-    let door = shown.door;
-    let quarter = shown.quarter;
-    let mut i: usize = shown.rows % 65536;
+pub fn say_rows(pool: &[u16], base: Base, door: u16, quarter: u16, rows: usize) -> Shown {
+    let mut i: usize = rows % 65536;
     let mut room: usize = SCREEN;
     while 0 < room {
         let row = say_row(pool, base, door, quarter, i);

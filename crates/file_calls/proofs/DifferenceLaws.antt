@@ -1,4 +1,4 @@
--- One turn of match's loop over the pool's grants and the file's (`firstDifference`, index/specs/FileCalls).
+-- One turn of match's loop over the pool's grants and the file's (`firstDifference`, calls/specs/FileCalls).
 --   length-ours, ours-here      the pool's grants in sorted cells: how many, and the one at place i with those after it
 --   both-end                    neither side has a grant at place i
 --   theirs-left, ours-left      one side alone has one

@@ -7,6 +7,7 @@ ghost use Rattle.grants_file.specs.File.{grantsIn};
 ghost use Rattle.grants_file.specs.FileSets.{Accepted};
 ghost use Rattle.steps.specs.Hits.{CellsAt, grantsAt};
 ghost use Rattle.calls.specs.FileCalls.{firstDifference, matchCall};
+use adt::predicates::Predicate;
 use adt::search::HitCells;
 use geometry::range::range_of_doors;
 use grants_file::grants::first_door;
@@ -82,7 +83,7 @@ pub fn match_file(pool: &[u16], file: &[u8]) -> Matched
     };
     let range = range_of_doors(first_door(file), last_door(file));
     let mut hits = [0u16; MAX_CAPACITY];
-    let Hits::Found(found) = find_hits(pool, cells, &range, &mut hits) else {
+    let Hits::Found(found) = find_hits(pool, cells, &range, Predicate::InRange, &mut hits) else {
         return Matched::Refused(Fault::BrokenLinks);
     };
     let mut sorted = [0u16; MAX_CAPACITY];

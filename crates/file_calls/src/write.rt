@@ -4,6 +4,7 @@ ghost use Rattle.model.specs.Answer.{writtenAnswer};
 ghost use Rattle.calls.specs.FileCalls.{writeCall};
 ghost use Rattle.calls.specs.Contract.{Lends};
 use crate::write_file::write_file;
+use adt::predicates::Predicate;
 use geometry::range::range_of_doors;
 use grants_file::file::blocks_for;
 use grants_file::layout::BLOCK_BYTES;
@@ -28,7 +29,7 @@ pub fn write(pool: &[u16], door_from: u16, door_to: u16, bytes: &mut [u8]) -> Wr
     }
     let range = range_of_doors(door_from, door_to);
     let mut hits = [0u16; MAX_CAPACITY];
-    let Hits::Found(found) = find_hits(pool, cells, &range, &mut hits) else {
+    let Hits::Found(found) = find_hits(pool, cells, &range, Predicate::InRange, &mut hits) else {
         return Written::Refused(Fault::BrokenLinks);
     };
     let needed = BLOCK_BYTES * blocks_for(found);

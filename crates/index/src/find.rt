@@ -1,6 +1,7 @@
 // The search for a grant's number, which grant and revoke begin with.
 ghost use Rattle.pool.specs.Capacity.{Sized};
 ghost use Rattle.index.specs.NumberSearch.{NumberFound};
+use adt::predicates::Predicate;
 use adt::search::FOUND;
 use adt::search::LEVEL;
 use adt::search::LINK;
@@ -27,7 +28,14 @@ pub fn find_number(pool: &[u16], cells: usize, number: u16) -> NumberHit
     let mut hits = [0u16; MAX_CAPACITY];
     let mut counters = [0usize; 4];
     let range = range_of_number(number);
-    if !search(pool, cells, &range, &mut hits, &mut counters) {
+    if !search(
+        pool,
+        cells,
+        &range,
+        Predicate::InRange,
+        &mut hits,
+        &mut counters,
+    ) {
         return NumberHit::Broken;
     }
     if counters[FOUND] == 0 {

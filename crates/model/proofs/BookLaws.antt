@@ -2,7 +2,7 @@
 --   bookStep-capacity                      C stays
 --   bookStep-sound                         neither fault 1 nor fault 9
 --   bookList-writes                        what an accepted list wrote
---   bookList-same, bookDecide-same         what list and decide tell goes by the grants that overlap alone
+--   bookList-same, bookDecide-same         what list tells goes by the grants taken alone, and decide by those that overlap
 -- Assumes nothing.
 use Prim.Native.Nat.{ℕ}
 use mathlib.Core.Path.{_≡_, refl, ap, _∙_}
@@ -18,12 +18,13 @@ use Rattle.model.specs.declared.Kind.{Kind}
 use Rattle.model.specs.declared.Kind.the-variants.{Bars, Opens}
 use Rattle.model.specs.declared.Box.{Box}
 use Rattle.model.specs.declared.Grant.{Grant}
+use Rattle.model.specs.declared.Choice.{Choice}
 use Rattle.model.specs.Box.{pointBox}
 use Rattle.model.specs.Answer.{accepted, decisionAnswer}
 use Rattle.model.specs.Refusal.{Cause, Step, firstFault, stepBy, refusing}
 use Rattle.model.specs.Decide.{decidingOf, decisionOf, decideAmong}
 use Rattle.model.specs.Call.{Call, grant, revoke, list, decide, count}
-use Rattle.model.specs.Book.{Book, overlapping, bookGrant, bookRevoke, bookList, bookDecide, bookCount, bookStep}
+use Rattle.model.specs.Book.{Book, overlapping, takenFor, bookGrant, bookRevoke, bookList, bookDecide, bookCount, bookStep}
 use Rattle.model.specs.Histories.{responseOf}
 use Rattle.model.proofs.RefusalLaws.{accepted-done}
 use Rattle.model.proofs.Simulation.{Agrees, refusing-agrees}
@@ -42,7 +43,7 @@ pub bookStep-capacity : (b : Book) (c : Call) → bookStep b c .state .capacity 
 unfolding bookStep bookGrant bookRevoke bookList bookDecide bookCount
 bookStep-capacity b (grant r) = refusing-capacity _ b [] _ refl
 bookStep-capacity b (revoke n) = refusing-capacity _ b [] _ refl
-bookStep-capacity b (list q lent) = refusing-capacity _ b lent _ refl
+bookStep-capacity b (list q choice lent) = refusing-capacity _ b lent _ refl
 bookStep-capacity b (decide staff door quarter) = refl
 bookStep-capacity b count = refl
 
@@ -59,28 +60,28 @@ pub bookStep-sound : (b : Book) (c : Call) → soundAnswer (bookStep b c .answer
 unfolding bookStep bookGrant bookRevoke bookList bookDecide bookCount every
 bookStep-sound b (grant r) = refusing-sound _ b [] _ refl refl
 bookStep-sound b (revoke n) = refusing-sound _ b [] _ refl refl
-bookStep-sound b (list q lent) = refusing-sound _ b lent _ refl refl
+bookStep-sound b (list q choice lent) = refusing-sound _ b lent _ refl refl
 bookStep-sound b (decide staff door quarter) = decideAmong-sound (overlapping (pointBox staff door quarter) (b .live))
 bookStep-sound b count = refl
 
 abbrev grantNumber : Grant → ℕ
 grantNumber g = g .number
 
-pub bookList-writes : (b : Book) (q : Box) (lent : List ℕ) (n : ℕ) → bookList b q lent .answer ≡ accepted (n ∷ [])
-    → take n (bookList b q lent .lent) ≡ map grantNumber (overlapping q (b .live))
+pub bookList-writes : (b : Book) (q : Box) (choice : Choice) (lent : List ℕ) (n : ℕ) → bookList b q choice lent .answer ≡ accepted (n ∷ [])
+    → take n (bookList b q choice lent .lent) ≡ map grantNumber (takenFor q choice (b .live))
 unfolding bookList overwrite
-bookList-writes b q lent n taken =
-    let numbers = map grantNumber (overlapping q (b .live)) in
+bookList-writes b q choice lent n taken =
+    let numbers = map grantNumber (takenFor q choice (b .live)) in
     let done = accepted-done _ b lent _ (n ∷ []) taken in
     let count : length numbers ≡ n = cc in
     ap (λ (r : Step Book). take n (r .lent)) done ∙ take-at numbers _ n count
 
 module _ (b d : Book) where
-  pub bookList-same : (q : Box) (lent : List ℕ) → overlapping q (b .live) ≡ overlapping q (d .live)
-      → responseOf (bookList b q lent) ≡ responseOf (bookList d q lent)
+  pub bookList-same : (q : Box) (choice : Choice) (lent : List ℕ) → takenFor q choice (b .live) ≡ takenFor q choice (d .live)
+      → responseOf (bookList b q choice lent) ≡ responseOf (bookList d q choice lent)
   unfolding bookList
-  bookList-same q lent same =
-      let agrees : Agrees (λ (x y : Book). Unit {0}) (bookList b q lent) (bookList d q lent) =
+  bookList-same q choice lent same =
+      let agrees : Agrees (λ (x y : Book). Unit {0}) (bookList b q choice lent) (bookList d q choice lent) =
       refusing-agrees (λ (x y : Book). Unit {0}) _ _ lent _ _ tt (rw same) (λ none. record { same = rw same; related = tt }) in
       agrees .same
 

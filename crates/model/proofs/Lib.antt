@@ -1,6 +1,7 @@
 -- Laws of the model, for the crates above.
 pub mod OverlapLaws
 pub mod QuarterLaws
+pub mod RelationLaws
 pub mod DecideLaws
 pub mod Simulation
 pub mod RefusalLaws

@@ -1,9 +1,10 @@
 -- The tests of specs/Overlap are its conditions.
+--   held-iff                        a number lies in a closed range (specs/Interval)
 --   overlapOn-iff, overlapInTime-iff   on one range, and on quarters
 --   overlaps-iff                    on all three
 --   overlapping-iff                 so the grants that the book takes are those that overlap
 -- Assumes nothing.
-use Prim.Native.Nat.{suc}
+use Prim.Native.Nat.{ℕ, suc, _≤_}
 use mathlib.Core.Logic.{_↔_}
 use mathlib.Core.Bool.{_&&_}
 use mathlib.Core.List.{List, List·Memᴰ}
@@ -11,11 +12,17 @@ use lib.Dec.{T}
 use Rattle.lists.proofs.TestLaws.{T-iff, T-and, both-le, le-both, mem-filter, filter-mem}
 use Rattle.model.specs.declared.Box.{Box}
 use Rattle.model.specs.declared.Grant.{Grant}
-use Rattle.model.specs.Interval.{Interval}
+use Rattle.model.specs.Interval.{Interval, holds}
 use Rattle.model.specs.Quarters.{Quarters}
 use Rattle.model.specs.Box.{staffOf, doorsOf, quartersOf}
 use Rattle.model.specs.Overlap.{OverlapOn, OverlapInTime, Overlap, overlapOn, overlapInTime, overlaps}
 use Rattle.model.specs.Book.{overlapping}
+
+pub held-iff : (i : Interval) (x : ℕ) → T (holds i x) ↔ ((i .from ≤ x) × (x ≤ i .to))
+held-iff i x = (
+  (λ t. both-le (i .from) x x (i .to) (T-iff (holds i x) .0 t)),
+  (λ h. T-iff (holds i x) .1 (le-both (i .from) x x (i .to) (h .0) (h .1))),
+)
 
 pub overlapOn-iff : (a b : Interval) → T (overlapOn a b) ↔ OverlapOn a b
 overlapOn-iff a b = (

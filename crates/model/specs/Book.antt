@@ -14,9 +14,11 @@ use Rattle.lists.specs.Overwrite.{overwrite}
 use Rattle.lists.specs.Sort.{insertBy}
 use Rattle.model.specs.declared.Box.{Box}
 use Rattle.model.specs.declared.Grant.{Grant}
+use Rattle.model.specs.declared.Choice.{Choice}
 use Rattle.model.specs.declared.Fault.the-variants.{Reversed, ZeroNumber, AlreadyLive, Full, NotLive, ListTooShort}
 use Rattle.model.specs.Box.{pointBox}
 use Rattle.model.specs.Overlap.{overlaps}
+use Rattle.model.specs.Relation.{taken}
 use Rattle.model.specs.Answer.{Answer, accepted, decisionAnswer}
 use Rattle.model.specs.Refusal.{Step, _if_, refusing}
 use Rattle.model.specs.Arguments.{reversedBox, zeroNumber, requestCauses}
@@ -43,6 +45,10 @@ isLive b n = any (λ g. eqb (g .number) n) (b .live)
 abbrev pub overlapping : Box → List Grant → List Grant
 overlapping q gs = filter (λ g. overlaps (g .bounds) q) gs
 
+-- those that list's choice takes for a box
+abbrev pub takenFor : Box → Choice → List Grant → List Grant
+takenFor q choice gs = filter (taken choice q) gs
+
 unfoldable pub bookGrant : Book → Request → Step Book
 bookGrant b r =
     refusing
@@ -62,9 +68,9 @@ bookRevoke b n =
     b []
     (record { state = withLive b (filter (λ g. not (eqb (g .number) n)) (b .live)); answer = accepted []; lent = [] })
 
-unfoldable pub bookList : Book → Box → List ℕ → Step Book
-bookList b q lent =
-    let numbers = map (λ g. g .number) (overlapping q (b .live)) in
+unfoldable pub bookList : Book → Box → Choice → List ℕ → Step Book
+bookList b q choice lent =
+    let numbers = map (λ g. g .number) (takenFor q choice (b .live)) in
     refusing
     (Reversed if reversedBox q
     ∷ ListTooShort (length numbers) if ltb (length lent) (length numbers)
@@ -88,6 +94,6 @@ bookCount b =
 unfoldable pub bookStep : Book → Call → Step Book
 bookStep b (grant r) = bookGrant b r
 bookStep b (revoke n) = bookRevoke b n
-bookStep b (list q lent) = bookList b q lent
+bookStep b (list q choice lent) = bookList b q choice lent
 bookStep b (decide staff door quarter) = bookDecide b staff door quarter
 bookStep b count = bookCount b

@@ -2,12 +2,13 @@
 --   Request     what grant is asked to add; its kind comes as a number, since a number above 1 is fault 4
 --   request     the request of these values
 --   requested, requestOf   the grant that an accepted request adds, and a grant as a request
---   Call        grant, revoke, list with its lent list, decide, count
+--   Call        grant, revoke, list with its choice (document 02, card 4) and its lent list, decide, count
 -- Assumes nothing: these are definitions.
 use Prim.Native.Nat.{ℕ}
 use mathlib.Core.List.{List}
 use Rattle.model.specs.declared.Box.{Box}
 use Rattle.model.specs.declared.Grant.{Grant}
+use Rattle.model.specs.declared.Choice.{Choice}
 use Rattle.model.specs.Kind.{kindNumber, kindOf}
 
 pub record Request : Type 0 where
@@ -30,6 +31,6 @@ requestOf g = record { number = g .number; rank = g .rank; kind = kindNumber (g 
 pub data Call : Type 0 where
   grant : Request → Call
   revoke : ℕ → Call
-  list : Box → List ℕ → Call
+  list : Box → Choice → List ℕ → Call
   decide : ℕ → ℕ → ℕ → Call
   count : Call

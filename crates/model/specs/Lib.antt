@@ -5,6 +5,7 @@ pub mod Interval
 pub mod Quarters
 pub mod Box
 pub mod Overlap
+pub mod Relation
 pub mod Grant
 pub mod Fault
 pub mod Answer

@@ -3,7 +3,7 @@
 --   OverlapInTime a b    quarters: either begins before the other is over
 --   Overlap a b          on staff, doors and quarters
 --   overlapOn a b, overlapInTime a b, overlaps a b   the same as tests; proofs/OverlapLaws joins them
--- Changed by card 4. Assumes nothing: these are definitions.
+-- Assumes nothing: these are definitions.
 use Prim.Native.Nat.{_≤_, _<_}
 use mathlib.Core.Bool.{Bool, _&&_}
 use lib.Dec.{leb, ltb}

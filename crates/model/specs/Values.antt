@@ -35,7 +35,7 @@ pub record RequestFits (r : Request) : Type 0 where
 abbrev pub CallFits : Call → Type 0
 CallFits (grant r) = RequestFits r
 CallFits (revoke n) = Unit {0}
-CallFits (list q lent) = Unit {0}
+CallFits (list q choice lent) = Unit {0}
 CallFits (decide staff door quarter) = Unit {0}
 CallFits count = Unit {0}
 

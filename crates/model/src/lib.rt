@@ -6,6 +6,7 @@ pub mod bounds;
 pub mod decide;
 pub mod faults;
 pub mod kinds;
+pub mod relations;
 pub mod same;
 pub mod seniority;
 
@@ -34,6 +35,19 @@ pub struct Grant {
     pub rank: u8,
     pub kind: Kind,
     pub bounds: Box,
+}
+
+// How a grant stands to a box: they don't overlap, they do, or it holds all of the box (document 02, card 4).
+pub enum Relation {
+    Apart,
+    Touches,
+    Holds,
+}
+
+// Which grants list lists: those that touch its box, which includes those that hold it, or those that hold it (document 02, card 4).
+pub enum Choice {
+    Touching,
+    Holding,
 }
 
 // Document 01's faults 1 to 14, in this order, then document 02's 16, 24 and 25.

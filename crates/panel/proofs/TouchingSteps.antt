@@ -10,19 +10,17 @@ use mathlib.Core.List.{List, map}
 use Rattle.lists.specs.Sort.{sortBy}
 use Rattle.model.specs.declared.Box.{Box}
 use Rattle.model.specs.declared.Grant.{Grant}
+use Rattle.model.specs.declared.Choice.the-variants as choice
 use Rattle.model.specs.declared.Fault.the-variants.{BadPool, BrokenLinks}
 use Rattle.model.specs.Quarters.{coverable}
 use Rattle.model.specs.Refusal.{firstFault}
-use Rattle.geometry.specs.Region.{Region}
-use Rattle.geometry.specs.SearchRange.{rangeOfBox}
 use Rattle.pool.specs.Capacity.{poolCapacity}
 use Rattle.pool.specs.Cell.{grantAt}
-use Rattle.adt.specs.Search.{inRange}
 use Rattle.steps.specs.declared.hits.Hits.{Hits}
 use Rattle.steps.specs.declared.hits.Hits.the-variants.{Broken, Found}
-use Rattle.steps.specs.Hits.{HitsFound, grantsAt}
+use Rattle.steps.specs.Hits.{TakenFound, grantsAt}
 use Rattle.calls.specs.Order.{lookOrder}
-use Rattle.steps.proofs.HitsLaws.{broken-search, found-hits}
+use Rattle.steps.proofs.HitsLaws.{taken-broken, taken-hits}
 use Rattle.calls.proofs.RefusalSteps.{pool-refused, pool-taken}
 use Rattle.panel.specs.declared.touching.Touching.{Touching}
 use Rattle.panel.specs.declared.touching.Touching.the-variants.{End, Refused}
@@ -37,19 +35,16 @@ module _ (w : List ℕ) (door quarter i : ℕ) {c : ℕ} (e : c ≡ poolCapacity
   unfolding touchingAt lookOrder firstFault sortBy placedAmong
   touching-late n late = rw (late, pool-taken w e n .right)
 
-  module _ (n : ¬ (c ≡ 0)) (early : coverable quarter ≡ true) {b : Box} {q : Region} (asked : b ≡ doorBox door quarter) (a : q ≡ rangeOfBox b) where
-    range : q ≡ rangeOfBox (doorBox door quarter)
-    range = a ∙ ap rangeOfBox asked
-
-    module _ (h : List ℕ) {r : Hits} (f : HitsFound w q (inRange q) h r) where
+  module _ (n : ¬ (c ≡ 0)) (early : coverable quarter ≡ true) {b : Box} (asked : b ≡ doorBox door quarter) where
+    module _ (h : List ℕ) {r : Hits} (f : TakenFound w b choice.Touching h r) where
       pub touching-broken : r ≡ Broken → Refused BrokenLinks ≡ touchingAt w door quarter i
       unfolding touchingAt lookOrder firstFault
-      touching-broken met = rw (early, pool-taken w e n .right, broken-search w inRange range h f met)
+      touching-broken met = rw (early, pool-taken w e n .right, taken-broken w choice.Touching asked h f met)
 
       pub touching-done : {found : ℕ} → r ≡ Found found → {t : Touching} → t ≡ placed (sortBy (λ g. g .number) (grantsAt w h found)) i
           → t ≡ touchingAt w door quarter i
       unfolding touchingAt lookOrder firstFault
       touching-done unmet {t} done =
-          let at = found-hits w inRange range h f unmet in
+          let at = taken-hits w choice.Touching asked h f unmet in
           rw (early, pool-taken w e n .right, at .unbroken)
           (done ∙ ap (λ (ks : List ℕ). placed (sortBy (λ (g : Grant). g .number) (map (grantAt w) ks)) i) (sym (at .found)))

@@ -3,8 +3,8 @@
 --   atDoorSearch w door quarter    its search; nothing is walked at the highest quarter, which no grant covers
 --   grantsTouching w door quarter  the grants in the cells that the search hits, ascending by number; on a scrambled pool with repetition
 --   placed gs i                    the i-th of them, from 0, with its precedence among them all (precedence/specs/Precedence); End past the last
---   touchingAt w door quarter i    that, or the first fault of decide's order line (index/specs/Order) that holds
--- What they are in the plain book is said in Claim. Assumes nothing: these are definitions.
+--   touchingAt w door quarter i    that, or the first fault of decide's order line (calls/specs/Order) that holds
+-- What they are in the plain book is said in claims/specs/PanelClaims. Assumes nothing: these are definitions.
 use Prim.Native.Nat.{ℕ, zero, suc, _+_}
 use mathlib.Core.List.{List, [], _∷_}
 use mathlib.Core.Option.{Option, none, some}

@@ -9,8 +9,8 @@ ghost use Rattle.steps.specs.Hits.{CellsAt, grantsAt};
 ghost use Rattle.panel.specs.Touching.{doorBox, placed, touchingAt};
 use adt::search::HitCells;
 use geometry::axis::TOP;
-use geometry::range::range_of_box;
 use model::Box;
+use model::Choice;
 use model::Fault;
 use model::Grant;
 use model::bounds::is_coverable;
@@ -21,7 +21,7 @@ use pool::layout::wide;
 use precedence::Precedence;
 use precedence::overriding::precedence_among;
 use steps::hits::Hits;
-use steps::hits::find_hits;
+use steps::hits::find_taken;
 use steps::sorted_cells::sort_cells;
 
 pub enum Touching {
@@ -82,9 +82,9 @@ pub fn touching_at(pool: &[u16], door: u16, quarter: u16, i: usize) -> Touching
     if !is_coverable(quarter) {
         return Touching::End;
     }
-    let range = range_of_box(door_box(door, quarter));
+    let bounds = door_box(door, quarter);
     let mut hits = [0u16; MAX_CAPACITY];
-    let Hits::Found(found) = find_hits(pool, cells, &range, &mut hits) else {
+    let Hits::Found(found) = find_taken(pool, cells, bounds, Choice::Touching, &mut hits) else {
         return Touching::Refused(Fault::BrokenLinks);
     };
     sorted_placed(pool, &hits, found, i)

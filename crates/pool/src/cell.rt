@@ -14,7 +14,8 @@ use model::Grant;
 use model::kinds::kind_number;
 use model::kinds::kind_of;
 
-fn bounds_at(pool: &[u16], cell: usize) -> Box
+// The box of the grant in a cell.
+pub fn bounds_at(pool: &[u16], cell: usize) -> Box
     requires { ⌜ InPool (now pool) cell ⌝ }
     ensures { λ r. ⌜ r ≡ grantAt (now (pool .entry)) cell .bounds ⌝ }
 {

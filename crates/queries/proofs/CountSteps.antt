@@ -3,7 +3,7 @@
 --   count-few                              no more are live than there are cells
 -- Assumes nothing.
 use Prim.Native.Nat.{ℕ, _-_, _≤_}
-use mathlib.Core.Path.{_≡_}
+use mathlib.Core.Path.{_≡_, ap}
 use mathlib.Core.List.{List, [], _∷_}
 use native.Mathlib.Omega.{arith}
 use lib.ListN.{length}
@@ -15,22 +15,22 @@ use Rattle.pool.specs.Capacity.{poolCapacity}
 use Rattle.adt.specs.Search.{inRange}
 use Rattle.steps.specs.declared.hits.Hits.{Hits}
 use Rattle.steps.specs.declared.hits.Hits.the-variants.{Broken, Found}
-use Rattle.calls.specs.Walks.{fullSearch, hitsOf}
+use Rattle.calls.specs.Walks.{fullSearch, isBroken, hitsOf}
 use Rattle.steps.specs.Hits.{HitsFound}
 use Rattle.calls.specs.Calls.{countCall}
-use Rattle.steps.proofs.HitsLaws.{found-hits, length-hits}
+use Rattle.steps.proofs.HitsLaws.{broken-search, found-hits, length-hits}
 use Rattle.calls.proofs.RefusalSteps.{pool-taken}
 use Rattle.queries.proofs.LookSteps.{look-bad, look-broken, look-done}
 
 module _ (w : List ℕ) {c : ℕ} (e : c ≡ poolCapacity w) where
   pub count-bad : c ≡ 0 → refusal BadPool ≡ countCall w .answer
   unfolding countCall
-  count-bad z = look-bad w _ e _ z
+  count-bad z = look-bad w _ _ e z
 
   module _ (n : ¬ (c ≡ 0)) {q : Region} (all : q ≡ rangeOfAll) (h : List ℕ) {r : Hits} (f : HitsFound w q (inRange q) h r) where
     pub count-broken : r ≡ Broken → refusal BrokenLinks ≡ countCall w .answer
     unfolding countCall
-    count-broken b = look-broken w inRange rangeOfAll _ e n all h f b
+    count-broken b = look-broken w _ _ e n (ap isBroken (broken-search w inRange all h f b))
 
     module _ {live : ℕ} (b : r ≡ Found live) where
       pub count-few : live ≤ c
@@ -40,4 +40,4 @@ module _ (w : List ℕ) {c : ℕ} (e : c ≡ poolCapacity w) where
       unfolding countCall
       count-done =
           let long : length (hitsOf (fullSearch w)) ≡ live = length-hits w rangeOfAll _ h (found-hits w inRange all h f b) in
-          rw (← long, ← pool-taken w e n .capacity) (look-done w inRange rangeOfAll _ e n all h f b)
+          rw (← long, ← pool-taken w e n .capacity) (look-done w _ _ e n (found-hits w inRange all h f b .unbroken))

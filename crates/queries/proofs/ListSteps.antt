@@ -3,7 +3,7 @@
 --   list-done                                           the sorted numbers at the start of the lent list
 -- Assumes nothing.
 use Prim.Native.Nat.{ℕ, _<_, _≤_}
-use mathlib.Core.Path.{_≡_, sym, ap, _∙_}
+use mathlib.Core.Path.{_≡_, refl, sym, ap, _∙_}
 use mathlib.Core.Bool.{Bool, true, false}
 use mathlib.Core.List.{List, [], _∷_, _++_}
 use native.Mathlib.Omega.{arith}
@@ -14,22 +14,23 @@ use Rattle.lists.specs.Sort.{sortBy}
 use Rattle.lists.specs.Overwrite.{overwrite}
 use Rattle.lists.proofs.SortLaws.{length-sortBy}
 use Rattle.model.specs.declared.Box.{Box}
+use Rattle.model.specs.declared.Choice.{Choice}
 use Rattle.model.specs.declared.Fault.the-variants.{BadPool, Reversed, BrokenLinks, ListTooShort}
 use Rattle.model.specs.Answer.{accepted, refusal}
 use Rattle.model.specs.Refusal.{Step}
 use Rattle.model.specs.Arguments.{reversedBox}
-use Rattle.geometry.specs.Region.{Region}
+use Rattle.model.specs.Relation.{taken}
 use Rattle.geometry.specs.SearchRange.{rangeOfBox}
 use Rattle.pool.specs.Capacity.{wrongPool, poolCapacity}
-use Rattle.adt.specs.Search.{Search, inRange}
+use Rattle.adt.specs.Search.{Search}
 use Rattle.steps.specs.declared.hits.Hits.{Hits}
 use Rattle.steps.specs.declared.hits.Hits.the-variants.{Broken, Found}
 use Rattle.calls.specs.Walks.{boxSearch, hitsOf, isBroken}
-use Rattle.steps.specs.Hits.{numbersAt, HitsAt, HitsFound}
+use Rattle.steps.specs.Hits.{numbersAt, HitsAt, TakenFound}
 use Rattle.calls.specs.Order.{listOrder}
 use Rattle.calls.specs.Calls.{listCall}
 use Rattle.calls.specs.Contract.{Lends}
-use Rattle.steps.proofs.HitsLaws.{broken-search, found-hits, length-hits}
+use Rattle.steps.proofs.HitsLaws.{taken-broken, taken-hits, length-hits}
 use Rattle.queries.proofs.NumberLaws.{length-numbersAt}
 use Rattle.calls.proofs.RefusalSteps.{refusedBy, first-holds, first-fails, none-left, lends-as, pool-refused, pool-taken}
 
@@ -38,26 +39,26 @@ overwrite-by : (part lent : List ℕ) {xs : List ℕ} {n : ℕ} → part ≡ xs 
 unfolding overwrite
 overwrite-by part lent same long = rw (← long, ← same)
 
-module _ (w : List ℕ) (q : Box) (lent : List ℕ) where
+module _ (w : List ℕ) (q : Box) (choice : Choice) (lent : List ℕ) where
   abbrev s : Search
-  s = boxSearch w q
+  s = boxSearch w q choice
 
   -- what an accepted list gives
   abbrev listed : Step (List ℕ)
   listed = record { state = w; answer = accepted (length (hitsOf s) ∷ []); lent = overwrite (sortBy (λ n. n) (numbersAt w (hitsOf s))) lent }
 
   module _ (right : wrongPool w ≡ false) where
-    reversed-step : reversedBox q ≡ true → listCall w q lent ≡ refusedBy Reversed w lent
+    reversed-step : reversedBox q ≡ true → listCall w q choice lent ≡ refusedBy Reversed w lent
     unfolding listCall listOrder
     reversed-step v = first-fails w lent listed _ _ right ∙ first-holds w lent listed _ _ v
 
     module _ (forward : reversedBox q ≡ false) where
-      broken-step : isBroken s ≡ true → listCall w q lent ≡ refusedBy BrokenLinks w lent
+      broken-step : isBroken s ≡ true → listCall w q choice lent ≡ refusedBy BrokenLinks w lent
       unfolding listCall listOrder
       broken-step met = first-fails w lent listed _ _ right ∙ first-fails w lent listed _ _ forward ∙ first-holds w lent listed _ _ met
 
       module _ (unmet : isBroken s ≡ false) where
-        short-step : length lent < length (hitsOf s) → listCall w q lent ≡ refusedBy (ListTooShort (length (hitsOf s))) w lent
+        short-step : length lent < length (hitsOf s) → listCall w q choice lent ≡ refusedBy (ListTooShort (length (hitsOf s))) w lent
         unfolding listCall listOrder
         short-step short =
             first-fails w lent listed _ _ right
@@ -65,7 +66,7 @@ module _ (w : List ℕ) (q : Box) (lent : List ℕ) where
             ∙ first-fails w lent listed _ _ unmet
             ∙ first-holds w lent listed _ _ (lt-ltb _ _ short)
 
-        done-step : length (hitsOf s) ≤ length lent → listCall w q lent ≡ listed
+        done-step : length (hitsOf s) ≤ length lent → listCall w q choice lent ≡ listed
         unfolding listCall listOrder
         done-step room =
             first-fails w lent listed _ _ right
@@ -75,7 +76,7 @@ module _ (w : List ℕ) (q : Box) (lent : List ℕ) where
             ∙ none-left w lent listed
 
   module _ {c : ℕ} (e : c ≡ poolCapacity w) where
-    pub list-bad : c ≡ 0 → Lends (refusal BadPool) lent (listCall w q lent)
+    pub list-bad : c ≡ 0 → Lends (refusal BadPool) lent (listCall w q choice lent)
     unfolding listCall listOrder
     list-bad z = lends-as (first-holds w lent listed _ _ (pool-refused w e z))
 
@@ -83,26 +84,25 @@ module _ (w : List ℕ) (q : Box) (lent : List ℕ) where
       right : wrongPool w ≡ false
       right = pool-taken w e n .right
 
-      pub list-reversed : reversed ≡ true → Lends (refusal Reversed) lent (listCall w q lent)
+      pub list-reversed : reversed ≡ true → Lends (refusal Reversed) lent (listCall w q choice lent)
       list-reversed r = lends-as (reversed-step right (sym v ∙ r))
 
-      module _ (forward : reversed ≡ false) {range : Region} (a : range ≡ rangeOfBox q) (h : List ℕ)
-          {r : Hits} (f : HitsFound w range (inRange range) h r) where
-        pub list-broken : r ≡ Broken → Lends (refusal BrokenLinks) lent (listCall w q lent)
-        list-broken b = lends-as (broken-step right (sym v ∙ forward) (ap isBroken (broken-search w inRange a h f b)))
+      module _ (forward : reversed ≡ false) (h : List ℕ) {r : Hits} (f : TakenFound w q choice h r) where
+        pub list-broken : r ≡ Broken → Lends (refusal BrokenLinks) lent (listCall w q choice lent)
+        list-broken b = lends-as (broken-step right (sym v ∙ forward) (ap isBroken (taken-broken w choice refl h f b)))
 
         module _ {found : ℕ} (b : r ≡ Found found) where
-          at : HitsAt w (rangeOfBox q) (inRange (rangeOfBox q)) h found
-          at = found-hits w inRange a h f b
+          at : HitsAt w (rangeOfBox q) (taken choice q) h found
+          at = taken-hits w choice refl h f b
 
           long : length (hitsOf s) ≡ found
-          long = length-hits w (rangeOfBox q) _ h at
+          long = length-hits w (rangeOfBox q) (taken choice q) h at
 
-          pub list-short : length lent < found → Lends (refusal (ListTooShort found)) lent (listCall w q lent)
+          pub list-short : length lent < found → Lends (refusal (ListTooShort found)) lent (listCall w q choice lent)
           list-short short = rw (← long) (lends-as (short-step right (sym v ∙ forward) (at .unbroken) (omega (arith, long))))
 
           pub list-done : found ≤ length lent → {part : List ℕ} → part ≡ sortBy (λ n. n) (numbersAt w (take (length (take found lent)) h))
-              → Lends (accepted (found ∷ [])) (part ++ drop found lent) (listCall w q lent)
+              → Lends (accepted (found ∷ [])) (part ++ drop found lent) (listCall w q choice lent)
           list-done room {part} sorted =
               let size : length (take found lent) ≡ found = length-take-le found lent room in
               let numbers : part ≡ sortBy (λ n. n) (numbersAt w (hitsOf s)) = sorted ∙ rw (size, at .found) in

@@ -2,6 +2,7 @@
 ghost use mathlib.Core.Path.{_≡_};
 ghost use Rattle.model.specs.Answer.{countedAnswer};
 ghost use Rattle.calls.specs.Calls.{countCall};
+use adt::predicates::Predicate;
 use geometry::region::root_region;
 use model::Counted;
 use model::Fault;
@@ -19,7 +20,8 @@ pub fn count(pool: &[u16]) -> Counted
     }
     let everything = root_region();
     let mut hits = [0u16; MAX_CAPACITY];
-    let Hits::Found(live) = find_hits(pool, cells, &everything, &mut hits) else {
+    let Hits::Found(live) = find_hits(pool, cells, &everything, Predicate::InRange, &mut hits)
+    else {
         return Counted::Refused(Fault::BrokenLinks);
     };
     Counted::Cells {

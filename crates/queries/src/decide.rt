@@ -6,7 +6,7 @@ ghost use Rattle.model.specs.Decide.{decideAmong};
 ghost use Rattle.steps.specs.Hits.{CellsAt, grantsAt};
 ghost use Rattle.calls.specs.Calls.{decideCall};
 use adt::search::HitCells;
-use geometry::range::range_of_box;
+use model::Choice;
 use model::Decision;
 use model::Fault;
 use model::bounds::is_coverable;
@@ -18,7 +18,7 @@ use pool::layout::MAX_CAPACITY;
 use pool::layout::capacity;
 use pool::layout::wide;
 use steps::hits::Hits;
-use steps::hits::find_hits;
+use steps::hits::find_taken;
 
 // What the grants in the first cells of the hits decide, in one pass: a later one takes the place only of one that it outranks.
 fn decide_among(pool: &[u16], hits: &HitCells, found: usize) -> Decision
@@ -50,9 +50,9 @@ pub fn decide(pool: &[u16], staff: u16, door: u16, quarter: u16) -> Decision
     if !is_coverable(quarter) {
         return Decision::None;
     }
-    let range = range_of_box(point_box(staff, door, quarter));
+    let point = point_box(staff, door, quarter);
     let mut hits = [0u16; MAX_CAPACITY];
-    let Hits::Found(found) = find_hits(pool, cells, &range, &mut hits) else {
+    let Hits::Found(found) = find_taken(pool, cells, point, Choice::Touching, &mut hits) else {
         return Decision::Refused(Fault::BrokenLinks);
     };
     decide_among(pool, &hits, found)

@@ -1,5 +1,5 @@
-// list: the numbers of the live grants that overlap a box, ascending, from the lent list's start (document 01, "The plain book").
-// Refuses by 1, 2, 9, then 8, and writes nothing before that.
+// list: the numbers of the live grants that touch a box, or of those that hold it, ascending, from the lent list's start (document 01,
+// "The plain book"; document 02, card 4). Refuses by 1, 2, 9, then 8, and writes nothing before that.
 ghost use mathlib.Core.Path.{_≡_};
 ghost use lib.ListN.{length, take};
 ghost use Rattle.lists.specs.Sort.{sortBy};
@@ -8,8 +8,8 @@ ghost use Rattle.steps.specs.Hits.{CellsAt, numbersAt};
 ghost use Rattle.calls.specs.Calls.{listCall};
 ghost use Rattle.calls.specs.Contract.{Lends};
 use adt::search::HitCells;
-use geometry::range::range_of_box;
 use model::Box;
+use model::Choice;
 use model::Fault;
 use model::Listed;
 use model::bounds::is_reversed;
@@ -20,7 +20,7 @@ use pool::layout::field;
 use pool::layout::wide;
 use sorting::sort_numbers;
 use steps::hits::Hits;
-use steps::hits::find_hits;
+use steps::hits::find_taken;
 
 // Fills the list with the numbers in the hits' cells, in their order.
 fn copy_numbers(pool: &[u16], hits: &HitCells, list: &mut [u16])
@@ -43,8 +43,8 @@ fn write_numbers(pool: &[u16], hits: &HitCells, list: &mut [u16])
     sort_numbers(list);
 }
 
-pub fn list(pool: &[u16], bounds: Box, list: &mut [u16]) -> Listed
-    ensures { λ r. ⌜ Lends (listedAnswer r) (now (list .exit)) (listCall (now (pool .entry)) bounds (now (list .entry))) ⌝ }
+pub fn list(pool: &[u16], bounds: Box, choice: Choice, list: &mut [u16]) -> Listed
+    ensures { λ r. ⌜ Lends (listedAnswer r) (now (list .exit)) (listCall (now (pool .entry)) bounds choice (now (list .entry))) ⌝ }
 {
     let cells = capacity(pool);
     if cells == 0 {
@@ -53,9 +53,8 @@ pub fn list(pool: &[u16], bounds: Box, list: &mut [u16]) -> Listed
     if is_reversed(bounds) {
         return Listed::Refused(Fault::Reversed);
     }
-    let range = range_of_box(bounds);
     let mut hits = [0u16; MAX_CAPACITY];
-    let Hits::Found(found) = find_hits(pool, cells, &range, &mut hits) else {
+    let Hits::Found(found) = find_taken(pool, cells, bounds, choice, &mut hits) else {
         return Listed::Refused(Fault::BrokenLinks);
     };
     if list.len() < found {

@@ -3,6 +3,7 @@ pub mod NumberLaws
 pub mod DayLaws
 pub mod QuarterLaws
 pub mod MomentLaws
+pub mod RoundingLaws
 pub mod WordLaws
 pub mod QuestionLaws
 pub mod QuestionCases

@@ -1,8 +1,10 @@
 -- What a quarter that was read says of the text (specs/Quarter): the day, the hour and the quarter-hour of the calendar are those in the text.
---   IsMoment base q bs     the text holds the quarter's day and hour, and a minute of its quarter-hour
---   sameDate-equal         days that are the same are equal
---   daysSince-found        so many days after the base day comes the day, if that is within reach
---   quarter-moment         where a text has a quarter, it holds that quarter's moment
+--   MomentRead r base q bs   the text holds a day so many days after the base day, an hour and a minute, and q is their quarter, rounded
+--   IsMoment base q bs       the text holds the quarter's day and hour, and a minute of its quarter-hour
+--   sameDate-equal           days that are the same are equal
+--   daysSince-found          so many days after the base day comes the day, if that is within reach
+--   quarter-read-from        where a text has a quarter, rounded down or up, it was read from a day and time in the text
+--   quarter-moment           where a text has a quarter, rounded down, it holds that quarter's moment
 -- Assumes nothing.
 use Prim.Native.Nat.{ℕ, zero, suc, _+_, _*_, _/_, _<_, _≤_}
 use mathlib.Core.Path.{_≡_, refl, sym}
@@ -17,10 +19,25 @@ use Rattle.question.specs.declared.Number.{Number}
 use Rattle.question.specs.declared.Number.the-variants as number
 use Rattle.question.specs.declared.Day.{Day}
 use Rattle.question.specs.declared.Day.the-variants as day
+use Rattle.question.specs.declared.Rounding.{Rounding}
+use Rattle.question.specs.declared.Rounding.the-variants as rounding
 use Rattle.question.specs.declared.Quarter.the-variants as quarter
 use Rattle.question.specs.Number.{typedNumber}
 use Rattle.question.specs.Day.{part, dayIn}
-use Rattle.question.specs.Quarter.{momentForm, sameDate, daysFrom, daysSince, daysLimit, lastQuarter, quarterAt, timeOf, quarterBy, quarterOf}
+use Rattle.question.specs.Quarter.{momentForm, sameDate, daysFrom, daysSince, daysLimit, lastQuarter, minutesAdded, quarterAt, timeOf}
+use Rattle.question.specs.Quarter.{quarterBy, quarterOf}
+
+pub record MomentRead (r : Rounding) (base : Date) (q : ℕ) (bs : List ℕ) : Type 0 where
+  pub days : ℕ
+  pub hour : ℕ
+  pub minute : ℕ
+  pub has-form : momentForm bs ≡ true
+  pub is-day : dayIn (part 0 10 bs) ≡ day.Is (dateAfter base days)
+  pub is-hour : typedNumber (part 11 2 bs) ≡ number.Value hour
+  pub is-minute : typedNumber (part 14 2 bs) ≡ number.Value minute
+  pub in-day : hour ≤ 23
+  pub in-hour : minute ≤ 59
+  pub rounded : q ≡ 96 * days + 4 * hour + (minute + minutesAdded r) / 15
 
 pub record IsMoment (base : Date) (q : ℕ) (bs : List ℕ) : Type 0 where
   pub minute : ℕ
@@ -63,14 +80,68 @@ daysSince-found base to n e h = found daysLimit 0 n base to e (omega arith)
 no-quarter : {q : ℕ} → quarter.Bad ≡ quarter.Is q → ⊥
 no-quarter e = let z : _≡_ {A = ℕ} 0 1 = cc in omega arith
 
-quarterAt-value : (n h m q : ℕ) → quarterAt n h m ≡ quarter.Is q → (q ≡ 96 * n + 4 * h + m / 15) × (q ≤ lastQuarter)
+abbrev rounded : Rounding → ℕ → ℕ → ℕ → ℕ
+rounded r n h m = 96 * n + 4 * h + (m + minutesAdded r) / 15
+
+quarterAt-value : (r : Rounding) (n h m q : ℕ) → quarterAt r n h m ≡ quarter.Is q → (q ≡ rounded r n h m) × (q ≤ lastQuarter)
 unfolding quarterAt
-quarterAt-value n h m q e = by-test (leb (96 * n + 4 * h + m / 15) lastQuarter) refl e
+quarterAt-value r n h m q e = by-test (leb (rounded r n h m) lastQuarter) refl e
   where
-    by-test : (t : Bool) → leb (96 * n + 4 * h + m / 15) lastQuarter ≡ t → cond t (quarter.Is (96 * n + 4 * h + m / 15)) quarter.Bad ≡ quarter.Is q
-        → (q ≡ 96 * n + 4 * h + m / 15) × (q ≤ lastQuarter)
-    by-test true s p = let v : 96 * n + 4 * h + m / 15 ≡ q = cc in (sym v, omega (arith, leb-true (96 * n + 4 * h + m / 15) lastQuarter s))
+    by-test : (t : Bool) → leb (rounded r n h m) lastQuarter ≡ t → cond t (quarter.Is (rounded r n h m)) quarter.Bad ≡ quarter.Is q
+        → (q ≡ rounded r n h m) × (q ≤ lastQuarter)
+    by-test true s p = let v : rounded r n h m ≡ q = cc in (sym v, omega (arith, leb-true (rounded r n h m) lastQuarter s))
     by-test false s p = absurd (no-quarter p)
+
+-- what a time's quarter says
+record Timed (r : Rounding) (base to : Date) (h m q : ℕ) : Type 0 where
+  on-day : dateAfter base (daysSince base to) ≡ to
+  in-day : h ≤ 23
+  in-hour : m ≤ 59
+  is-rounded : q ≡ rounded r (daysSince base to) h m
+
+timed : (r : Rounding) (base to : Date) (h m q : ℕ) → timeOf r base to h m ≡ quarter.Is q → Timed r base to h m q
+unfolding timeOf
+timed r base to h m q e = by-test (leb h 23 && leb m 59) refl e
+  where
+    by-test : (t : Bool) → (leb h 23 && leb m 59) ≡ t → cond t (quarterAt r (daysSince base to) h m) quarter.Bad ≡ quarter.Is q → Timed r base to h m q
+    by-test false s p = absurd (no-quarter p)
+    by-test true s p =
+        let both = and-eq-true-iff (leb h 23) (leb m 59) .0 s in
+        let v = quarterAt-value r (daysSince base to) h m q p in
+        record {
+          on-day = daysSince-found base to (daysSince base to) refl (omega (arith, v .0, v .1));
+          in-day = leb-true h 23 (both .0);
+          in-hour = leb-true m 59 (both .1);
+          is-rounded = v .0;
+        }
+
+pub quarter-read-from : (r : Rounding) (base : Date) (bs : List ℕ) (q : ℕ) → quarterOf r base bs ≡ quarter.Is q → MomentRead r base q bs
+unfolding quarterOf
+quarter-read-from r base bs q e =
+    go (isDate (base .year) (base .month) (base .day) && momentForm bs) refl (dayIn (part 0 10 bs)) refl (typedNumber (part 11 2 bs)) refl
+    (typedNumber (part 14 2 bs)) refl e
+  where
+    go : (t : Bool) → (isDate (base .year) (base .month) (base .day) && momentForm bs) ≡ t → (o : Day) → dayIn (part 0 10 bs) ≡ o
+        → (h : Number) → typedNumber (part 11 2 bs) ≡ h → (m : Number) → typedNumber (part 14 2 bs) ≡ m
+        → cond t (quarterBy r base o h m) quarter.Bad ≡ quarter.Is q → MomentRead r base q bs
+    go false s o x h y m z p = absurd (no-quarter p)
+    go true s day.Bad x h y m z p = absurd (no-quarter p)
+    go true s (day.Is d) x number.Bad y m z p = absurd (no-quarter p)
+    go true s (day.Is d) x (number.Value h) y number.Bad z p = absurd (no-quarter p)
+    go true s (day.Is d) x (number.Value h) y (number.Value m) z p =
+        let t = timed r base d h m q p in
+        record {
+          days = daysSince base d;
+          hour = h;
+          minute = m;
+          has-form = and-eq-true-iff (isDate (base .year) (base .month) (base .day)) (momentForm bs) .0 s .1;
+          is-day = rw (t .on-day) x;
+          is-hour = y;
+          is-minute = z;
+          in-day = t .in-day;
+          in-hour = t .in-hour;
+          rounded = t .is-rounded;
+        }
 
 -- the parts of a quarter's number
 module _ (n h m q : ℕ) (e : q ≡ 96 * n + 4 * h + m / 15) (hour : h ≤ 23) (minute : m ≤ 59) where
@@ -83,53 +154,19 @@ module _ (n h m q : ℕ) (e : q ≡ 96 * n + 4 * h + m / 15) (hour : h ≤ 23) (
   is-minutes : minuteOf q ≡ m / 15 * 15
   is-minutes = omega arith
 
--- what a time's quarter says
-record Timed (base to : Date) (h m q : ℕ) : Type 0 where
-  on-day : dateAfter base (dayOf q) ≡ to
-  at-hour : hourOf q ≡ h
-  in-hour : m ≤ 59
-  rounded-down : minuteOf q ≡ m / 15 * 15
-
-timed : (base to : Date) (h m q : ℕ) → timeOf base to h m ≡ quarter.Is q → Timed base to h m q
-unfolding timeOf
-timed base to h m q e = by-test (leb h 23 && leb m 59) refl e
-  where
-    by-test : (t : Bool) → (leb h 23 && leb m 59) ≡ t → cond t (quarterAt (daysSince base to) h m) quarter.Bad ≡ quarter.Is q → Timed base to h m q
-    by-test false s p = absurd (no-quarter p)
-    by-test true s p =
-        let both = and-eq-true-iff (leb h 23) (leb m 59) .0 s in
-        let hour = leb-true h 23 (both .0) in
-        let minute = leb-true m 59 (both .1) in
-        let v = quarterAt-value (daysSince base to) h m q p in
-        let days = is-days (daysSince base to) h m q (v .0) hour minute in
-        record {
-          on-day = daysSince-found base to (dayOf q) (sym days) (omega (arith, v .1));
-          at-hour = is-hours (daysSince base to) h m q (v .0) hour minute;
-          in-hour = minute;
-          rounded-down = is-minutes (daysSince base to) h m q (v .0) hour minute;
-        }
-
-pub quarter-moment : (base : Date) (bs : List ℕ) (q : ℕ) → quarterOf base bs ≡ quarter.Is q → IsMoment base q bs
-unfolding quarterOf
+pub quarter-moment : (base : Date) (bs : List ℕ) (q : ℕ) → quarterOf rounding.Down base bs ≡ quarter.Is q → IsMoment base q bs
 quarter-moment base bs q e =
-    go (isDate (base .year) (base .month) (base .day) && momentForm bs) refl (dayIn (part 0 10 bs)) refl (typedNumber (part 11 2 bs)) refl
-    (typedNumber (part 14 2 bs)) refl e
-  where
-    go : (t : Bool) → (isDate (base .year) (base .month) (base .day) && momentForm bs) ≡ t → (o : Day) → dayIn (part 0 10 bs) ≡ o
-        → (h : Number) → typedNumber (part 11 2 bs) ≡ h → (m : Number) → typedNumber (part 14 2 bs) ≡ m
-        → cond t (quarterBy base o h m) quarter.Bad ≡ quarter.Is q → IsMoment base q bs
-    go false s o x h y m z p = absurd (no-quarter p)
-    go true s day.Bad x h y m z p = absurd (no-quarter p)
-    go true s (day.Is d) x number.Bad y m z p = absurd (no-quarter p)
-    go true s (day.Is d) x (number.Value h) y number.Bad z p = absurd (no-quarter p)
-    go true s (day.Is d) x (number.Value h) y (number.Value m) z p =
-        let t = timed base d h m q p in
-        record {
-          minute = m;
-          has-form = and-eq-true-iff (isDate (base .year) (base .month) (base .day)) (momentForm bs) .0 s .1;
-          is-day = rw (t .on-day) x;
-          is-hour = rw (t .at-hour) y;
-          is-minute = z;
-          in-hour = t .in-hour;
-          rounded-down = t .rounded-down;
-        }
+    let t = quarter-read-from rounding.Down base bs q e in
+    let n = t .days in
+    let h = t .hour in
+    let m = t .minute in
+    let v : q ≡ 96 * n + 4 * h + m / 15 = omega (arith, t .rounded) in
+    record {
+      minute = m;
+      has-form = t .has-form;
+      is-day = rw (is-days n h m q v (t .in-day) (t .in-hour)) (t .is-day);
+      is-hour = rw (is-hours n h m q v (t .in-day) (t .in-hour)) (t .is-hour);
+      is-minute = t .is-minute;
+      in-hour = t .in-hour;
+      rounded-down = is-minutes n h m q v (t .in-day) (t .in-hour);
+    }

@@ -1,9 +1,11 @@
 -- From a line to its question, step by step (specs/Question).
 --   question-bad, question-good    the question that the numbers read make, and Bad where they were not read
---   who-taken .. may-at-taken      a question looks at no number past its own
+--   who-taken .. covers-at-taken   a question looks at no number past its own
 --   plain-..                       what a line without a day and time asks, by its word
 --   timed-..                       what the front of a line with one asks, by its word
---   form-..                        whether a line has one
+--   span-..                        what the front of a line with two asks, by its word
+--   form-..                        whether a line ends in one
+--   dated-..                       what a line asks that does, for a base day
 --   line-..                        what a line asks
 -- Assumes nothing.
 use Prim.Native.Nat.{ℕ, _-_, _<_, _≤_}
@@ -25,13 +27,16 @@ use Rattle.text.specs.Scan.{fieldsFrom, numbersIn}
 use Rattle.calendar.specs.declared.Date.{Date}
 use Rattle.calendar.specs.declared.Base.{Base}
 use Rattle.calendar.specs.declared.Base.the-variants as base
+use Rattle.question.specs.declared.Rounding.the-variants as rounding
+use Rattle.question.specs.declared.Quarter.{Quarter}
 use Rattle.question.specs.declared.Quarter.the-variants as quarter
 use Rattle.question.specs.declared.Question.{Question}
 use Rattle.question.specs.declared.Question.the-variants as question
 use Rattle.question.specs.Quarter.{quarterOf}
 use Rattle.question.specs.Word.{begins}
-use Rattle.question.specs.Question.{lineBytes, hasMarks, timed, ending, front, afterWord, questionBy, whoOf, mayOf, whoAt, mayAt}
-use Rattle.question.specs.Question.{plainQuestion, timedQuestion, questionOf}
+use Rattle.question.specs.Question.{lineBytes, hasMarks, timed, ending, front, afterWord, questionBy, whoOf, mayOf, coversOf}
+use Rattle.question.specs.Question.{whoAt, mayAt, coversAt, plainQuestion, timedQuestion, spanQuestion, quartersQuestion}
+use Rattle.question.specs.Question.{datedQuestion, questionOf}
 use Rattle.question.proofs.WordLaws.{begins-length}
 
 module _ (ask : List ℕ → Question) (n : Numbers) (count : ℕ) (o : Option (List ℕ)) (e : numbersIn n count ≡ o) where
@@ -48,16 +53,23 @@ who-taken vs = rw (getD-take 2 vs 0 0 (lit< tt), getD-take 2 vs 1 0 (lit< tt))
 pub may-taken : (vs : List ℕ) → mayOf (take 3 vs) ≡ mayOf vs
 may-taken vs = rw (getD-take 3 vs 0 0 (lit< tt), getD-take 3 vs 1 0 (lit< tt), getD-take 3 vs 2 0 (lit< tt))
 
+pub covers-taken : (vs : List ℕ) → coversOf (take 4 vs) ≡ coversOf vs
+covers-taken vs =
+    rw (getD-take 4 vs 0 0 (lit< tt), getD-take 4 vs 1 0 (lit< tt), getD-take 4 vs 2 0 (lit< tt), getD-take 4 vs 3 0 (lit< tt))
+
 pub who-at-taken : (q : ℕ) (vs : List ℕ) → whoAt q (take 1 vs) ≡ whoAt q vs
 who-at-taken q vs = rw (getD-take 1 vs 0 0 (lit< tt))
 
 pub may-at-taken : (q : ℕ) (vs : List ℕ) → mayAt q (take 2 vs) ≡ mayAt q vs
 may-at-taken q vs = rw (getD-take 2 vs 0 0 (lit< tt), getD-take 2 vs 1 0 (lit< tt))
 
+pub covers-at-taken : (from to : ℕ) (vs : List ℕ) → coversAt from to (take 2 vs) ≡ coversAt from to vs
+covers-at-taken from to vs = rw (getD-take 2 vs 0 0 (lit< tt), getD-take 2 vs 1 0 (lit< tt))
+
 -- a line that begins with a word goes on after it
-after-word : (ws bs : List ℕ) → 4 ≤ length ws → begins ws bs ≡ true → fieldsFrom bs 4 ≡ afterWord bs
+after-word : (ws bs : List ℕ) → begins ws bs ≡ true → fieldsFrom bs (length ws) ≡ afterWord ws bs
 unfolding fieldsFrom
-after-word ws bs h e = rw (le-leb 4 (length bs) (omega (arith, begins-length ws bs e)))
+after-word ws bs e = rw (le-leb (length ws) (length bs) (begins-length ws bs e))
 
 empty-same : (bs : List ℕ) → length bs ≡ 0 → sameNumbers bs [] ≡ true
 unfolding sameNumbers
@@ -70,11 +82,14 @@ some-same [] e = absurd (e refl)
 some-same (b ∷ bs) e = refl
 
 module _ (bs : List ℕ) where
-  after-who : begins (ascii "who ") bs ≡ true → fieldsFrom bs 4 ≡ afterWord bs
-  after-who = after-word (ascii "who ") bs (omega arith)
+  after-who : begins (ascii "who ") bs ≡ true → fieldsFrom bs 4 ≡ afterWord (ascii "who ") bs
+  after-who = after-word (ascii "who ") bs
 
-  after-may : begins (ascii "may ") bs ≡ true → fieldsFrom bs 4 ≡ afterWord bs
-  after-may = after-word (ascii "may ") bs (omega arith)
+  after-may : begins (ascii "may ") bs ≡ true → fieldsFrom bs 4 ≡ afterWord (ascii "may ") bs
+  after-may = after-word (ascii "may ") bs
+
+  after-covers : begins (ascii "covers ") bs ≡ true → fieldsFrom bs 7 ≡ afterWord (ascii "covers ") bs
+  after-covers = after-word (ascii "covers ") bs
 
   pub plain-who : begins (ascii "who ") bs ≡ true → questionBy whoOf (numbers (Word ∷ Word ∷ []) (fieldsFrom bs 4)) ≡ plainQuestion bs
   unfolding plainQuestion
@@ -86,23 +101,29 @@ module _ (bs : List ℕ) where
     plain-may m = rw (after-may m, w, m)
 
     module _ (m : begins (ascii "may ") bs ≡ false) where
-      pub plain-empty : length bs ≡ 0 → question.More ≡ plainQuestion bs
+      pub plain-covers : begins (ascii "covers ") bs ≡ true
+          → questionBy coversOf (numbers (Word ∷ Word ∷ Word ∷ Word ∷ []) (fieldsFrom bs 7)) ≡ plainQuestion bs
       unfolding plainQuestion
-      plain-empty e = rw (w, m, empty-same bs e)
+      plain-covers c = rw (after-covers c, w, m, c)
 
-      module _ (e : length bs ≡ 0 → ⊥) where
-        pub plain-help : sameNumbers bs (ascii "help") ≡ true → question.Help ≡ plainQuestion bs
+      module _ (c : begins (ascii "covers ") bs ≡ false) where
+        pub plain-empty : length bs ≡ 0 → question.More ≡ plainQuestion bs
         unfolding plainQuestion
-        plain-help h = rw (w, m, some-same bs e, h)
+        plain-empty e = rw (w, m, c, empty-same bs e)
 
-        module _ (h : sameNumbers bs (ascii "help") ≡ false) where
-          pub plain-quit : sameNumbers bs (ascii "quit") ≡ true → question.Quit ≡ plainQuestion bs
+        module _ (e : length bs ≡ 0 → ⊥) where
+          pub plain-help : sameNumbers bs (ascii "help") ≡ true → question.Help ≡ plainQuestion bs
           unfolding plainQuestion
-          plain-quit q = rw (w, m, some-same bs e, h, q)
+          plain-help h = rw (w, m, c, some-same bs e, h)
 
-          pub plain-bad : sameNumbers bs (ascii "quit") ≡ false → question.Bad ≡ plainQuestion bs
-          unfolding plainQuestion
-          plain-bad q = rw (w, m, some-same bs e, h, q)
+          module _ (h : sameNumbers bs (ascii "help") ≡ false) where
+            pub plain-quit : sameNumbers bs (ascii "quit") ≡ true → question.Quit ≡ plainQuestion bs
+            unfolding plainQuestion
+            plain-quit q = rw (w, m, c, some-same bs e, h, q)
+
+            pub plain-bad : sameNumbers bs (ascii "quit") ≡ false → question.Bad ≡ plainQuestion bs
+            unfolding plainQuestion
+            plain-bad q = rw (w, m, c, some-same bs e, h, q)
 
   module _ (q : ℕ) where
     pub timed-who : begins (ascii "who ") bs ≡ true → questionBy (whoAt q) (numbers (Word ∷ []) (fieldsFrom bs 4)) ≡ timedQuestion q bs
@@ -117,6 +138,22 @@ module _ (bs : List ℕ) where
       pub timed-bad : begins (ascii "may ") bs ≡ false → question.Bad ≡ timedQuestion q bs
       unfolding timedQuestion
       timed-bad m = rw (w, m)
+
+  module _ (from to : ℕ) where
+    pub span-covers : begins (ascii "covers ") bs ≡ true
+        → questionBy (coversAt from to) (numbers (Word ∷ Word ∷ []) (fieldsFrom bs 7)) ≡ spanQuestion from to bs
+    unfolding spanQuestion
+    span-covers c = rw (after-covers c, c)
+
+    pub span-bad : begins (ascii "covers ") bs ≡ false → question.Bad ≡ spanQuestion from to bs
+    unfolding spanQuestion
+    span-bad c = rw c
+
+  pub span-no-from : {from : Quarter} (to : ℕ) → from ≡ quarter.Bad → question.Bad ≡ quartersQuestion from (quarter.Is to) bs
+  span-no-from to e = rw e
+
+  pub span-from : {from : Quarter} (f to : ℕ) → from ≡ quarter.Is f → spanQuestion f to bs ≡ quartersQuestion from (quarter.Is to) bs
+  span-from f to e = rw e
 
   pub form-short : length bs < 17 → false ≡ timed bs
   unfolding timed
@@ -142,6 +179,30 @@ module _ (bs : List ℕ) where
       let b = eqb (getD bs (length bs - 17) 0) blank in
       leb-true 17 (length bs) (and-eq-true-iff a b .0 (and-eq-true-iff (a && b) (hasMarks (ending bs)) .0 e .0) .0)
 
+  module _ (d : Date) where
+    module _ (t : timed (front bs) ≡ true) where
+      pub dated-no-to : quarterOf rounding.Up d (ending bs) ≡ quarter.Bad → question.Bad ≡ datedQuestion d bs
+      unfolding datedQuestion
+      dated-no-to q = rw (t, q) (no-to (quarterOf rounding.Down d (ending (front bs))))
+        where
+          no-to : (from : Quarter) → question.Bad ≡ quartersQuestion from quarter.Bad (front (front bs))
+          no-to (quarter.Is from) = refl
+          no-to quarter.Bad = refl
+
+      pub dated-span : (to : ℕ) → quarterOf rounding.Up d (ending bs) ≡ quarter.Is to
+          → quartersQuestion (quarterOf rounding.Down d (ending (front bs))) (quarter.Is to) (front (front bs)) ≡ datedQuestion d bs
+      unfolding datedQuestion
+      dated-span to q = rw (t, q)
+
+    module _ (t : timed (front bs) ≡ false) where
+      pub dated-no-quarter : quarterOf rounding.Down d (ending bs) ≡ quarter.Bad → question.Bad ≡ datedQuestion d bs
+      unfolding datedQuestion
+      dated-no-quarter q = rw (t, q)
+
+      pub dated-timed : (q : ℕ) → quarterOf rounding.Down d (ending bs) ≡ quarter.Is q → timedQuestion q (front bs) ≡ datedQuestion d bs
+      unfolding datedQuestion
+      dated-timed q p = rw (t, p)
+
   pub line-long : (b : Base) → lineBytes < length bs → question.Bad ≡ questionOf b bs
   unfolding questionOf
   line-long b h = rw (lt-leb (length bs) lineBytes h)
@@ -151,16 +212,11 @@ module _ (bs : List ℕ) where
     unfolding questionOf
     line-plain b t = rw (le-leb (length bs) lineBytes h, t)
 
-    module _ (t : timed bs ≡ true) where
-      pub line-no-base : (b : Base) → b ≡ base.Unknown → question.NoBase ≡ questionOf b bs
+    module _ (t : timed bs ≡ true) (b : Base) where
+      pub line-no-base : b ≡ base.Unknown → question.NoBase ≡ questionOf b bs
       unfolding questionOf
-      line-no-base b e = rw (e, le-leb (length bs) lineBytes h, t)
+      line-no-base e = rw (e, le-leb (length bs) lineBytes h, t)
 
-      module _ (b : Base) (d : Date) (e : b ≡ base.Day d) where
-        pub line-no-quarter : quarterOf d (ending bs) ≡ quarter.Bad → question.Bad ≡ questionOf b bs
-        unfolding questionOf
-        line-no-quarter q = rw (e, le-leb (length bs) lineBytes h, t, q)
-
-        pub line-timed : (q : ℕ) → quarterOf d (ending bs) ≡ quarter.Is q → timedQuestion q (front bs) ≡ questionOf b bs
-        unfolding questionOf
-        line-timed q p = rw (e, le-leb (length bs) lineBytes h, t, p)
+      pub line-dated : (d : Date) → b ≡ base.Day d → datedQuestion d bs ≡ questionOf b bs
+      unfolding questionOf
+      line-dated d e = rw (e, le-leb (length bs) lineBytes h, t)

@@ -3,7 +3,7 @@
 --   day-shown                 a day's own text is read as the day
 --   after-date, after-later   the days after a date are dates, and each is later than those before
 --   daysSince-after           so many days after the base day is so many days since it
---   quarter-shown             the text of a quarter is read as the quarter, from a base day of the years 1 to 9316
+--   quarter-shown             the text of a quarter is read as the quarter, rounded down or up, from a base day of the years 1 to 9316
 -- Assumes nothing.
 use Prim.Native.Nat.{ℕ, zero, suc, _+_, _-_, _*_, _/_, _%_, _<_, _≤_}
 use mathlib.Core.Path.{_≡_, refl, sym, ap, _∙_}
@@ -23,10 +23,12 @@ use Rattle.calendar.specs.Moment.{twoDigits, dateText, momentText}
 use Rattle.calendar.proofs.CalendarLaws.{IsDate, isDate-iff, next-date, next-year}
 use Rattle.question.specs.declared.Number.the-variants as number
 use Rattle.question.specs.declared.Day.the-variants as day
+use Rattle.question.specs.declared.Rounding.{Rounding}
+use Rattle.question.specs.declared.Rounding.the-variants as rounding
 use Rattle.question.specs.declared.Quarter.the-variants as quarter
 use Rattle.question.specs.Number.{typedNumber}
 use Rattle.question.specs.Day.{dayForm, dateOf, dayIn}
-use Rattle.question.specs.Quarter.{momentForm, sameDate, daysFrom, daysSince, daysLimit, lastQuarter, quarterAt, timeOf, quarterOf}
+use Rattle.question.specs.Quarter.{momentForm, sameDate, daysFrom, daysSince, daysLimit, lastQuarter, minutesAdded, quarterAt, timeOf, quarterOf}
 use Rattle.question.proofs.DayLaws.{monthDays-most}
 use Rattle.question.proofs.MomentLaws.{sameDate-equal}
 
@@ -170,12 +172,16 @@ module _ (base : Date) (h : IsDate base) (n : ℕ) (fits : base .year + n ≤ la
 pub daysSince-after : (base : Date) (n : ℕ) → IsDate base → base .year + n ≤ lastYear → n < daysLimit → daysSince base (dateAfter base n) ≡ n
 daysSince-after base n h fits reach = days-after base h n fits daysLimit 0 (omega arith) (omega arith)
 
-pub quarter-shown : (base : Date) (q : ℕ) → IsDate base → base .year + daysLimit ≤ lastYear → q ≤ lastQuarter
-    → quarterOf base (momentText base q) ≡ quarter.Is q
+-- a quarter begins at a whole quarter-hour, so that rounding leaves it
+begins-whole : (r : Rounding) (q : ℕ) → 96 * dayOf q + 4 * hourOf q + (minuteOf q + minutesAdded r) / 15 ≡ q
+begins-whole rounding.Down q = omega arith
+begins-whole rounding.Up q = omega arith
+
+pub quarter-shown : (r : Rounding) (base : Date) (q : ℕ) → IsDate base → base .year + daysLimit ≤ lastYear → q ≤ lastQuarter
+    → quarterOf r base (momentText base q) ≡ quarter.Is q
 unfolding quarterOf momentForm timeOf quarterAt
-quarter-shown base q h fits last =
+quarter-shown r base q h fits last =
     let n = dayOf q in
-    let whole : 96 * n + 4 * hourOf q + minuteOf q / 15 ≡ q = omega arith in
     rw (
       isDate-iff base .1 h,
       day-shown (dateAfter base n) (after-date n base h (omega arith)),
@@ -184,6 +190,6 @@ quarter-shown base q h fits last =
       le-leb (hourOf q) 23 (omega arith),
       le-leb (minuteOf q) 59 (omega arith),
       daysSince-after base n h (omega arith) (omega arith),
-      whole,
+      begins-whole r q,
       le-leb q lastQuarter last,
     )

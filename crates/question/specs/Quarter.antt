@@ -4,10 +4,12 @@
 --   daysFrom left n base day   the first of `left` numbers, from n on, that is how many days the day comes after the base day; else the number after them
 --   daysSince base day         the days from the base day to the day; `daysLimit`, more than the quarters reach, where it comes later or before
 --   TimeInReach n h m          a time from 00:00 to 23:59, at most `daysLimit` days after the base day
---   quarterAt n h m            the quarter of a time n days after the base day; Bad where it is above `lastQuarter`
---   timeOf base day h m        the quarter of a day and a time from 00:00 to 23:59
---   quarterOf base bs          the quarter of the day and time that are the whole text; Bad for any other text, a day before the base day,
---                              a quarter above 65535, and where the base day is no day
+--   minutesAdded r             what is added to the minutes before they are counted in quarter-hours: nothing to round down, 14 to round up
+--   quarterAt r n h m          the quarter of a time n days after the base day; Bad where it is above `lastQuarter`
+--   timeOf r base day h m      the quarter of a day and a time from 00:00 to 23:59
+--   quarterOf r base bs        the quarter of the day and time that are the whole text: rounded down, the one that they lie in; rounded up, the
+--                              first that begins at them or later; Bad for any other text, a day before the base day, a quarter above 65535,
+--                              and where the base day is no day
 -- Assumes nothing: these are definitions.
 use Prim.Native.Nat.{ℕ, zero, suc, _+_, _*_, _/_, _≤_}
 use mathlib.Core.Bool.{Bool, cond, _&&_}
@@ -22,6 +24,8 @@ use Rattle.question.specs.declared.Number.{Number}
 use Rattle.question.specs.declared.Number.the-variants as number
 use Rattle.question.specs.declared.Day.{Day}
 use Rattle.question.specs.declared.Day.the-variants as day
+use Rattle.question.specs.declared.Rounding.{Rounding}
+use Rattle.question.specs.declared.Rounding.the-variants as rounding
 use Rattle.question.specs.declared.Quarter.{Quarter}
 use Rattle.question.specs.declared.Quarter.the-variants as quarter
 use Rattle.question.specs.Number.{typedNumber}
@@ -51,22 +55,26 @@ pub record TimeInReach (n hour minute : ℕ) : Type 0 where
 abbrev pub lastQuarter : ℕ
 lastQuarter = 65535
 
-unfoldable pub quarterAt : ℕ → ℕ → ℕ → Quarter
-quarterAt n hour minute =
-    let q = 96 * n + 4 * hour + minute / 15 in
+abbrev pub minutesAdded : Rounding → ℕ
+minutesAdded rounding.Down = 0
+minutesAdded rounding.Up = 14
+
+unfoldable pub quarterAt : Rounding → ℕ → ℕ → ℕ → Quarter
+quarterAt r n hour minute =
+    let q = 96 * n + 4 * hour + (minute + minutesAdded r) / 15 in
     cond (leb q lastQuarter) (quarter.Is q) quarter.Bad
 
-unfoldable pub timeOf : Date → Date → ℕ → ℕ → Quarter
-timeOf base day hour minute = cond (leb hour 23 && leb minute 59) (quarterAt (daysSince base day) hour minute) quarter.Bad
+unfoldable pub timeOf : Rounding → Date → Date → ℕ → ℕ → Quarter
+timeOf r base day hour minute = cond (leb hour 23 && leb minute 59) (quarterAt r (daysSince base day) hour minute) quarter.Bad
 
 -- the quarter of the day, the hour and the minute, where all are there
-abbrev pub quarterBy : Date → Day → Number → Number → Quarter
-quarterBy base day.Bad h m = quarter.Bad
-quarterBy base (day.Is d) number.Bad m = quarter.Bad
-quarterBy base (day.Is d) (number.Value h) number.Bad = quarter.Bad
-quarterBy base (day.Is d) (number.Value h) (number.Value m) = timeOf base d h m
+abbrev pub quarterBy : Rounding → Date → Day → Number → Number → Quarter
+quarterBy r base day.Bad h m = quarter.Bad
+quarterBy r base (day.Is d) number.Bad m = quarter.Bad
+quarterBy r base (day.Is d) (number.Value h) number.Bad = quarter.Bad
+quarterBy r base (day.Is d) (number.Value h) (number.Value m) = timeOf r base d h m
 
-unfoldable pub quarterOf : Date → List ℕ → Quarter
-quarterOf base bs =
+unfoldable pub quarterOf : Rounding → Date → List ℕ → Quarter
+quarterOf r base bs =
     cond (isDate (base .year) (base .month) (base .day) && momentForm bs)
-    (quarterBy base (dayIn (part 0 10 bs)) (typedNumber (part 11 2 bs)) (typedNumber (part 14 2 bs))) quarter.Bad
+    (quarterBy r base (dayIn (part 0 10 bs)) (typedNumber (part 11 2 bs)) (typedNumber (part 14 2 bs))) quarter.Bad

@@ -1,19 +1,25 @@
-// Reads a line as a question (specs/Question). A day and time at a line's end are split off first.
+// Reads a line as a question (specs/Question). A day and time at a line's end are split off first, and a second before them.
 ghost use mathlib.Core.Path.{_≡_};
 ghost use mathlib.Core.List.{[], _∷_};
+ghost use Prim.Native.Nat.{_≤_};
 ghost use lib.ListN.{length};
 ghost use Rattle.text.specs.declared.Width.the-variants.{Word};
 ghost use Rattle.text.specs.Numbers.{numbers};
 ghost use Rattle.text.specs.Scan.{fieldsFrom};
 ghost use Rattle.calendar.specs.Moment.{momentBytes};
-ghost use Rattle.question.specs.Question.{hasMarks, timed, questionBy, whoOf, mayOf, whoAt, mayAt};
-ghost use Rattle.question.specs.Question.{plainQuestion, timedQuestion, questionOf};
+ghost use Rattle.question.specs.Quarter.{quarterOf};
+ghost use Rattle.question.specs.Question.{hasMarks, timed, ending, front, questionBy, whoOf, mayOf, whoAt, mayAt};
+ghost use Rattle.question.specs.Question.{plainQuestion, timedQuestion, quartersQuestion, datedQuestion, questionOf};
 use crate::Quarter;
 use crate::Question;
+use crate::Rounding;
+use crate::covering::covers;
+use crate::covering::span_question;
 use crate::quarters::quarter_of;
 use crate::words::equals;
 use crate::words::starts;
 use calendar::Base;
+use calendar::Date;
 use text::reading::WORDS;
 use text::reading::read_numbers;
 
@@ -86,7 +92,7 @@ fn may_at(quarter: u16, line: &[u8]) -> Question
     }
 }
 
-// What a line asks that gives its quarter as a number, or none.
+// What a line asks that gives its quarters as numbers, or none.
 fn plain_question(line: &[u8]) -> Question
     ensures { λ r. ⌜ r ≡ plainQuestion (now (line .entry)) ⌝ }
 {
@@ -95,6 +101,9 @@ fn plain_question(line: &[u8]) -> Question
     }
     if starts(line, b"may ") {
         return may(line);
+    }
+    if starts(line, b"covers ") {
+        return covers(line);
     }
     if line.len() == 0 {
         return Question::More;
@@ -150,6 +159,45 @@ fn is_timed(line: &[u8]) -> bool
     has_marks(&line[at..])
 }
 
+// The quarter of the day and time at a line's end.
+fn last_moment(rounding: Rounding, day: Date, line: &[u8]) -> Quarter
+    requires { ⌜ 17 ≤ length (now line) ⌝ }
+    ensures { λ r. ⌜ r ≡ quarterOf rounding day (ending (now (line .entry))) ⌝ }
+{
+    let at = line.len() - MOMENT;
+    quarter_of(rounding, day, &line[at..])
+}
+
+// What a line without its last day and time asks, which are the quarter `to`: another day and time are at its end.
+fn until_question(day: Date, to: u16, line: &[u8]) -> Question
+    requires { ⌜ 17 ≤ length (now line) ⌝ }
+    ensures { λ r. ⌜ r ≡ quartersQuestion (quarterOf Rounding.Down day (ending (now (line .entry)))) (Quarter.Is to) (front (now (line .entry))) ⌝ }
+{
+    let Quarter::Is(from) = last_moment(Rounding::Down, day, line) else {
+        return Question::Bad;
+    };
+    let gap = line.len() - TAIL;
+    span_question(from, to, &line[..gap])
+}
+
+// What a line asks that ends in a day and time, or in two.
+fn dated_question(day: Date, line: &[u8]) -> Question
+    requires { ⌜ 17 ≤ length (now line) ⌝ }
+    ensures { λ r. ⌜ r ≡ datedQuestion day (now (line .entry)) ⌝ }
+{
+    let gap = line.len() - TAIL;
+    if is_timed(&line[..gap]) {
+        let Quarter::Is(to) = last_moment(Rounding::Up, day, line) else {
+            return Question::Bad;
+        };
+        return until_question(day, to, &line[..gap]);
+    }
+    let Quarter::Is(quarter) = last_moment(Rounding::Down, day, line) else {
+        return Question::Bad;
+    };
+    timed_question(quarter, &line[..gap])
+}
+
 // What a line asks, which is given without its newline.
 pub fn question_of(base: Base, line: &[u8]) -> Question
     ensures { λ r. ⌜ r ≡ questionOf base (now (line .entry)) ⌝ }
@@ -163,10 +211,5 @@ pub fn question_of(base: Base, line: &[u8]) -> Question
     let Base::Day(day) = base else {
         return Question::NoBase;
     };
-    let at = line.len() - MOMENT;
-    let Quarter::Is(quarter) = quarter_of(day, &line[at..]) else {
-        return Question::Bad;
-    };
-    let gap = line.len() - TAIL;
-    timed_question(quarter, &line[..gap])
+    dated_question(day, line)
 }

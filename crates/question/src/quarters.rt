@@ -2,10 +2,11 @@
 ghost use mathlib.Core.Path.{_≡_};
 ghost use Prim.Native.Nat.{_≤_};
 ghost use Rattle.calendar.specs.Calendar.{lastYear};
-ghost use Rattle.question.specs.Quarter.{momentForm, sameDate, daysSince, daysLimit, TimeInReach, quarterAt, timeOf, quarterOf};
+ghost use Rattle.question.specs.Quarter.{momentForm, sameDate, daysSince, daysLimit, TimeInReach, minutesAdded, quarterAt, timeOf, quarterOf};
 use crate::Day;
 use crate::Number;
 use crate::Quarter;
+use crate::Rounding;
 use crate::dates::day_of_text;
 use crate::decimal::number_of;
 use calendar::Date;
@@ -60,12 +61,23 @@ fn days_since(base: Date, day: Date) -> usize
     n
 }
 
-// The quarter of a time, so many days after the base day.
-fn quarter_at(days: usize, hour: u16, minute: u16) -> Quarter
-    requires { ⌜ TimeInReach days hour minute ⌝ }
-    ensures { λ r. ⌜ r ≡ quarterAt days hour minute ⌝ }
+// What is added to the minutes before they are counted in quarter-hours.
+fn minutes_added(rounding: Rounding) -> usize
+    ensures { λ r. ⌜ (r ≡ minutesAdded rounding) × (r ≤ 14) ⌝ }
 {
-    let q = 96 * days + 4 * hour as usize + minute as usize / 15;
+    match rounding {
+        Rounding::Down => 0,
+        Rounding::Up => 14,
+    }
+}
+
+// The quarter of a time, so many days after the base day.
+fn quarter_at(rounding: Rounding, days: usize, hour: u16, minute: u16) -> Quarter
+    requires { ⌜ TimeInReach days hour minute ⌝ }
+    ensures { λ r. ⌜ r ≡ quarterAt rounding days hour minute ⌝ }
+{
+    let minutes = minute as usize + minutes_added(rounding);
+    let q = 96 * days + 4 * hour as usize + minutes / 15;
     if LAST < q {
         return Quarter::Bad;
     }
@@ -73,9 +85,9 @@ fn quarter_at(days: usize, hour: u16, minute: u16) -> Quarter
 }
 
 // The quarter of a day and a time.
-fn time_of(base: Date, day: Date, hour: u16, minute: u16) -> Quarter
+fn time_of(rounding: Rounding, base: Date, day: Date, hour: u16, minute: u16) -> Quarter
     requires { ⌜ base .year ≤ lastYear ⌝ }
-    ensures { λ r. ⌜ r ≡ timeOf base day hour minute ⌝ }
+    ensures { λ r. ⌜ r ≡ timeOf rounding base day hour minute ⌝ }
 {
     if 23 < hour {
         return Quarter::Bad;
@@ -84,12 +96,12 @@ fn time_of(base: Date, day: Date, hour: u16, minute: u16) -> Quarter
         return Quarter::Bad;
     }
     let days = days_since(base, day);
-    quarter_at(days, hour, minute)
+    quarter_at(rounding, days, hour, minute)
 }
 
 // The quarter of the day and time that are the whole text. A day before the base day has none.
-pub fn quarter_of(base: Date, text: &[u8]) -> Quarter
-    ensures { λ r. ⌜ r ≡ quarterOf base (now (text .entry)) ⌝ }
+pub fn quarter_of(rounding: Rounding, base: Date, text: &[u8]) -> Quarter
+    ensures { λ r. ⌜ r ≡ quarterOf rounding base (now (text .entry)) ⌝ }
 {
     if !is_date(base.year, base.month, base.day) {
         return Quarter::Bad;
@@ -106,5 +118,5 @@ pub fn quarter_of(base: Date, text: &[u8]) -> Quarter
     let Number::Value(minute) = number_of(&text[14..16]) else {
         return Quarter::Bad;
     };
-    time_of(base, day, hour, minute)
+    time_of(rounding, base, day, hour, minute)
 }

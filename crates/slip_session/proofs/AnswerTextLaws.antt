@@ -5,6 +5,7 @@ use Prim.Native.Nat.{ℕ}
 use mathlib.Core.Path.{_≡_, refl}
 use mathlib.Core.List.{List}
 use Rattle.model.specs.declared.Box.{Box}
+use Rattle.model.specs.declared.Choice.{Choice}
 use Rattle.model.specs.declared.Outcome.{Outcome}
 use Rattle.model.specs.declared.Outcome.the-variants as outcome
 use Rattle.model.specs.declared.Listed.{Listed}
@@ -27,9 +28,9 @@ module _ (lent : List ℕ) where
   revoked-text n outcome.Done = refl
   revoked-text n (outcome.Refused f) = refl
 
-  pub listed-text : (q : Box) (before : List ℕ) (a : Listed) → listedText a lent ≡ answerText (list q before) (listedAnswer a) lent
-  listed-text q before (listed.Count n) = refl
-  listed-text q before (listed.Refused f) = refl
+  pub listed-text : (q : Box) (choice : Choice) (before : List ℕ) (a : Listed) → listedText a lent ≡ answerText (list q choice before) (listedAnswer a) lent
+  listed-text q choice before (listed.Count n) = refl
+  listed-text q choice before (listed.Refused f) = refl
 
   pub decided-text : (staff door quarter : ℕ) (a : Decision) → decisionText a ≡ answerText (decide staff door quarter) (decisionAnswer a) lent
   decided-text staff door quarter (decision.Opens g) = refl

@@ -9,6 +9,8 @@ use lib.ListN.{length, take}
 use lib.Seq.{take-take}
 use borrow.Author.Tests.{lt-ltb, le-ltb}
 use Rattle.model.specs.declared.Box.{Box}
+use Rattle.model.specs.declared.Choice.{Choice}
+use Rattle.model.specs.declared.Choice.the-variants.{Touching}
 use Rattle.model.specs.declared.Outcome.{Outcome}
 use Rattle.model.specs.declared.Listed.{Listed}
 use Rattle.model.specs.declared.Listed.the-variants as listed
@@ -43,10 +45,10 @@ text-as : (call : Call) (lent : List ℕ) {text own : List ℕ} {a b : Answer} �
 text-as call lent t o e = t ∙ o ∙ ap (λ (x : Answer). answerText call x lent) e
 
 -- a list is never longer than what a line has room for
-listed-whole : (w : List ℕ) (q : Box) (before lent : List ℕ) (a : Listed) → listedAnswer a ≡ listCall w q before .answer
-    → listedText a (take maxGrants lent) ≡ listedText a lent
-listed-whole w q before lent (listed.Count n) e = rw (take-take n maxGrants lent (list-few w q before n (sym e)))
-listed-whole w q before lent (listed.Refused f) e = refl
+listed-whole : (w : List ℕ) (q : Box) (choice : Choice) (before lent : List ℕ) (a : Listed)
+    → listedAnswer a ≡ listCall w q choice before .answer → listedText a (take maxGrants lent) ≡ listedText a lent
+listed-whole w q choice before lent (listed.Count n) e = rw (take-take n maxGrants lent (list-few w q choice before n (sym e)))
+listed-whole w q choice before lent (listed.Refused f) e = refl
 
 module _ (w lent line : List ℕ) {text : List ℕ} where
   pub prints-bad : slipOf line ≡ slip.Bad → text ≡ badText → Prints w lent text (lineStep wordsStep w lent line)
@@ -68,16 +70,16 @@ module _ (w lent line : List ℕ) {text : List ℕ} where
       rw e (record { left = d .left; lends = refl; printed = text-as (revoke number) lent t (revoked-text lent number o) (d .answered) })
 
   pub prints-list : {bounds : Box} → slipOf line ≡ slip.List bounds → {after : List ℕ} (a : Listed)
-      → Lends (listedAnswer a) after (listCall w bounds lent) → text ≡ listedText a (take maxGrants after)
+      → Lends (listedAnswer a) after (listCall w bounds Touching lent) → text ≡ listedText a (take maxGrants after)
       → Prints w after text (lineStep wordsStep w lent line)
   unfolding lineStep wordsStep listCall
   prints-list {bounds} e {after} a d t =
-      let whole = t ∙ listed-whole w bounds lent after a (d .answered) in
-      let printed = text-as (list bounds lent) after whole (listed-text after bounds lent a) (d .answered) in
+      let whole = t ∙ listed-whole w bounds Touching lent after a (d .answered) in
+      let printed = text-as (list bounds Touching lent) after whole (listed-text after bounds Touching lent a) (d .answered) in
       rw e (record {
         left = sym (refusing-keeps-state _ w lent _ refl);
         lends = d .left;
-        printed = printed ∙ ap (λ (l : List ℕ). answerText (list bounds lent) (listCall w bounds lent .answer) l) (d .left);
+        printed = printed ∙ ap (λ (l : List ℕ). answerText (list bounds Touching lent) (listCall w bounds Touching lent .answer) l) (d .left);
       })
 
   pub prints-decide : {staff door quarter : ℕ} → slipOf line ≡ slip.Decide staff door quarter → (a : Decision)

@@ -20,7 +20,7 @@ decidedText how number = cond (eqb how 0) noneText (cond (eqb how 1) (opensText 
 abbrev pub acceptedText : Call → List ℕ → List ℕ → List ℕ
 acceptedText (grant r) values lent = okText
 acceptedText (revoke n) values lent = okText
-acceptedText (list q before) values lent = listText (getD values 0 0) lent
+acceptedText (list q choice before) values lent = listText (getD values 0 0) lent
 acceptedText (decide staff door quarter) values lent = decidedText (getD values 0 0) (getD values 1 0)
 acceptedText count values lent = countText (getD values 0 0) (getD values 1 0)
 

@@ -25,7 +25,7 @@ pub record LineStep (S : Type 0) : Type 0 where
 abbrev pub lentAfter : Call → List ℕ → List ℕ → List ℕ
 lentAfter (grant r) before given = before
 lentAfter (revoke n) before given = before
-lentAfter (list q l) before given = given
+lentAfter (list q choice l) before given = given
 lentAfter (decide staff door quarter) before given = before
 lentAfter count before given = before
 

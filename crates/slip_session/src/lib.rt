@@ -21,6 +21,7 @@ use crate::printing::print_outcome;
 use index::grant::grant;
 use index::revoke::revoke;
 use model::Box;
+use model::Choice;
 use queries::count::count;
 use queries::decide::decide;
 use queries::list::list;
@@ -66,7 +67,7 @@ pub fn answer(pool: &mut [u16], lent: &mut [u16], line: &[u8], out: &mut [u8; LI
         } => { print_outcome(grant(pool, number, rank, kind, bounds), out) }
         Slip::Revoke(number) => print_outcome(revoke(pool, number), out),
         Slip::List(bounds) => {
-            let listed = list(pool, bounds, lent);
+            let listed = list(pool, bounds, Choice::Touching, lent);
             print_listed(listed, lent, out)
         }
         Slip::Decide {

@@ -1,10 +1,12 @@
--- What a search leaves for list, decide, count, write and match: the cells of its hits, in order, at the start of a list of 2,048 words.
+-- What a search leaves for list, decide, count, write, match and the panel's who: the cells of its hits, in order, at the start of a list of 2,048 words.
 --   Searchable w c q hits  what the search asks: a pool of c cells, a range of that form, and room for a hit of every cell
+--   BoxSearchable w c b hits     the same for a box, which covers a quarter
 --   CellsAt w hits n       the first n of the list are cells of the pool w
 --   HitsAt w q passes hits n     they are the hits of the search for the range q by a test
 --   grantsAt w hits n      the grants in those cells
 --   numbersAt w ks         the numbers of the grants in the cells ks
 --   HitsFound w q passes hits r  r says of that search that it is broken, or how many hits are at the start of the list
+--   TakenFound w b choice hits r the same of the search of a box, whose hits are the cells that the choice takes
 -- The contracts of inner functions cite these; no claim does. Assumes nothing: these are definitions.
 use Prim.Native.Nat.{ℕ, _<_, _≤_}
 use mathlib.Core.Path.{_≡_}
@@ -12,9 +14,12 @@ use mathlib.Core.Bool.{Bool, false}
 use mathlib.Core.List.{List, map}
 use lib.ListN.{length, take, getD}
 use Rattle.model.specs.Limits.{maxGrants}
+use Rattle.model.specs.declared.Box.{Box}
 use Rattle.model.specs.declared.Grant.{Grant}
+use Rattle.model.specs.declared.Choice.{Choice}
+use Rattle.model.specs.Relation.{taken}
 use Rattle.geometry.specs.Region.{Region}
-use Rattle.geometry.specs.SearchRange.{OneSided}
+use Rattle.geometry.specs.SearchRange.{OneSided, rangeOfBox}
 use Rattle.pool.specs.Capacity.{Sized, InPool, capacityOf}
 use Rattle.pool.specs.Cell.{grantAt}
 use Rattle.adt.specs.Search.{broken, searchBy}
@@ -26,6 +31,11 @@ use Rattle.calls.specs.Walks.{hitsOf, isBroken}
 pub record Searchable (w : List ℕ) (c : ℕ) (q : Region) (hits : List ℕ) : Type 0 where
   pub sized : Sized w c
   pub one-sided : OneSided q
+  pub room : length hits ≡ maxGrants
+
+pub record BoxSearchable (w : List ℕ) (c : ℕ) (b : Box) (hits : List ℕ) : Type 0 where
+  pub sized : Sized w c
+  pub some : b .«quarter_from» < b .«quarter_to»
   pub room : length hits ≡ maxGrants
 
 -- each can be read as a cell
@@ -50,3 +60,6 @@ pub record HitsAt (w : List ℕ) (q : Region) (passes : Grant → Bool) (hits : 
 unfoldable pub HitsFound : List ℕ → Region → (Grant → Bool) → List ℕ → Hits → Type 0
 HitsFound w q passes hits Broken = searchBy w q passes ≡ broken
 HitsFound w q passes hits (Found n) = HitsAt w q passes hits n
+
+abbrev pub TakenFound : List ℕ → Box → Choice → List ℕ → Hits → Type 0
+TakenFound w b choice hits r = HitsFound w (rangeOfBox b) (taken choice b) hits r

@@ -1,10 +1,12 @@
 //! Histories of calls from a fresh index: random, and where things get tight.
 
+use crate::cases::boxes::{all_near, near};
 use crate::cases::case::Case;
 use crate::cases::random::Random;
 use crate::cases::styles::{make_senior, quarter_near, spoil, Style};
 use crate::interface::call::Call;
-use crate::interface::grant::{Bounds, Grant, Span};
+use crate::interface::choice::CHOICES;
+use crate::interface::grant::{Bounds, Grant, Span, EVERYTHING};
 use crate::oracle::arguments::argument_fault;
 use crate::oracle::book::Book;
 use crate::oracle::file::file_of;
@@ -20,7 +22,10 @@ struct Clerk<'a> {
     calls: Vec<Call>,
 }
 
-/// A fresh index of C cells in memory that held anything, then calls.
+/// Live grants that a history's last lists are near to.
+const LAST_NEAR: usize = 3;
+
+/// A fresh index of C cells in memory that held anything, then calls; at last lists near some live grants.
 pub fn history(random: &mut Random, capacity: usize, length: usize, style: Style) -> Case {
     let pool = (0..words_for(capacity)).map(|_| random.word()).collect();
     let book = Book::new(capacity, Wrong::Nothing);
@@ -31,6 +36,7 @@ pub fn history(random: &mut Random, capacity: usize, length: usize, style: Style
     for _ in 0..length {
         clerk.next();
     }
+    clerk.list_near_grants();
     Case { pool, calls: clerk.calls }
 }
 
@@ -89,10 +95,10 @@ impl Clerk<'_> {
 
     /// A box of its own, or that of a live grant, or right beside it.
     fn bounds(&mut self) -> Bounds {
-        if self.book.live.is_empty() || self.random.one_in(2) {
-            return self.style.bounds(self.random);
-        }
-        let [staff, doors, quarters] = self.book.live[self.random.below(self.book.live.len())].bounds;
+        let [staff, doors, quarters] = match self.live_bounds() {
+            Some(bounds) if self.random.one_in(2) => bounds,
+            _ => return self.style.bounds(self.random),
+        };
         [span_beside(self.random, staff), span_beside(self.random, doors), quarters_beside(self.random, quarters)]
     }
 
@@ -108,11 +114,43 @@ impl Clerk<'_> {
         }
     }
 
+    /// A live grant's box.
+    fn live_bounds(&mut self) -> Option<Bounds> {
+        match self.book.live.is_empty() {
+            true => None,
+            false => Some(self.book.live[self.random.below(self.book.live.len())].bounds),
+        }
+    }
+
+    /// A box of any kind, or one near a live grant's.
     fn list(&mut self) {
-        let bounds = self.bounds();
-        let needed = self.book.overlapping(&bounds).len();
-        let lent = self.lent(needed, 3000);
-        self.calls.push(Call::List(bounds, lent));
+        let bounds = match self.live_bounds() {
+            Some(bounds) if self.random.one_in(2) => near(self.random, &bounds),
+            _ => self.bounds(),
+        };
+        self.list_box(bounds);
+    }
+
+    /// Either choice, in either order, each with a length of its own.
+    fn list_box(&mut self, bounds: Bounds) {
+        let mut choices = CHOICES;
+        choices.rotate_left(self.random.below(2));
+        for choice in choices {
+            let needed = self.book.taken(&bounds, choice).len();
+            let lent = self.lent(needed, 3000);
+            self.calls.push(Call::List(bounds, choice, lent));
+        }
+    }
+
+    /// Everything, and the boxes near some live grants.
+    fn list_near_grants(&mut self) {
+        self.list_box(EVERYTHING);
+        for _ in 0..LAST_NEAR {
+            let Some(bounds) = self.live_bounds() else {
+                return;
+            };
+            all_near(self.random, &bounds).into_iter().for_each(|asked| self.list_box(asked));
+        }
     }
 
     fn decide(&mut self) {
@@ -171,7 +209,7 @@ impl Clerk<'_> {
         spoil(self.random, &mut grant);
         self.calls.push(match self.random.below(6) {
             0 => Call::Revoke(0),
-            1 => Call::List(grant.bounds, self.random.below(3)),
+            1 => return self.list_box(grant.bounds),
             2 => Call::Write(grant.bounds[1], self.random.below(600)),
             _ => Call::Grant(grant),
         });
@@ -190,7 +228,7 @@ fn span_beside(random: &mut Random, span: Span) -> Span {
     }
 }
 
-/// Quarters, or those that touch them, or share just one with them; at 0 and 65535 those that touch cover nothing.
+/// Quarters, or those right before or behind them, or that share just one with them; at 0 and 65535 those before or behind cover nothing.
 fn quarters_beside(random: &mut Random, quarters: Span) -> Span {
     let (from, to) = quarters;
     match random.below(8) {

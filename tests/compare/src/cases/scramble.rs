@@ -1,15 +1,19 @@
 //! Pools that no history made, and calls that walk into their faults.
 
+use crate::cases::boxes::near;
 use crate::cases::case::Case;
 use crate::cases::histories::set_of_grants;
 use crate::cases::random::Random;
 use crate::cases::styles::{quarter_near, spoil, Style};
 use crate::interface::call::Call;
+use crate::interface::choice::{Choice, CHOICES};
 use crate::interface::grant::{Bounds, Grant, Span, EVERYTHING};
+use crate::oracle::arguments::is_reversed;
 use crate::oracle::file::file_of;
 use crate::oracle::honest::Honest;
-use crate::oracle::layout::{cell_words, left_of, put_cell, right_of, words_for, FREE_HEAD, ROOT};
-use crate::oracle::tree::{goes_left, halves, point_of, WHOLE};
+use crate::oracle::layout::{capacity_of, cell_words, left_of, put_cell, right_of, words_for, FREE_HEAD, ROOT};
+use crate::oracle::scrambled::list_hits;
+use crate::oracle::tree::{bounds_in, goes_left, halves, point_of, WHOLE};
 use crate::oracle::wrong::Wrong;
 
 /// A scrambled pool, and a grant that its calls keep to.
@@ -27,7 +31,7 @@ pub fn scrambled(random: &mut Random, most: usize) -> Case {
     };
     let style = Style::any(random, capacity);
     let mut grant = style.grant(random);
-    let words = match random.below(11) {
+    let words = match random.below(13) {
         0 => noise(random, capacity),
         1 | 2 => plausible(random, capacity, style),
         3 => cycle(random, capacity, style),
@@ -36,10 +40,11 @@ pub fn scrambled(random: &mut Random, most: usize) -> Case {
         6 => wrong_frame(random, capacity),
         7 => lowered(random, capacity, style),
         8 => emptied(random, capacity, style),
+        9 | 10 => reversed(random, capacity, style),
         _ => changed(random, capacity, style),
     };
     let scrambled = Scrambled { words, grant };
-    let calls = (0..12).map(|_| scrambled.call(random, style)).collect();
+    let calls = (0..12).flat_map(|_| scrambled.calls(random, style)).collect();
     Case { pool: scrambled.words, calls }
 }
 
@@ -67,21 +72,55 @@ impl Scrambled {
         [EVERYTHING[0], EVERYTHING[1], quarters]
     }
 
-    fn call(&self, random: &mut Random, style: Style) -> Call {
+    /// A box near a cell's, of which staff and doors are put in order and quarters that cover none are widened by one on each side.
+    fn near_a_cell(&self, random: &mut Random) -> Bounds {
+        let cells = self.words.len().saturating_sub(3) / 10;
+        if cells == 0 {
+            return EVERYTHING;
+        }
+        let [staff, doors, quarters] = bounds_in(&self.words, random.below(cells) as u16 + 1);
+        let in_order = |span: Span| (span.0.min(span.1), span.0.max(span.1));
+        let covered = match quarters.0 < quarters.1 {
+            true => quarters,
+            false => (quarters.1.saturating_sub(1), quarters.0.saturating_add(1)),
+        };
+        near(random, &[in_order(staff), in_order(doors), covered])
+    }
+
+    /// Either choice for a box: with room for any number, or for just those that it takes on the pool as it begins, or for one less.
+    fn lists(&self, random: &mut Random, bounds: Bounds) -> Vec<Call> {
+        let boxes = [EVERYTHING, self.around_a_cell(random), self.near_a_cell(random), self.near_a_cell(random), bounds, bounds];
+        let asked = random.pick(&boxes);
+        let room = |choice| match random.below(4) {
+            0 => self.hits(&asked, choice),
+            1 => self.hits(&asked, choice).saturating_sub(1),
+            _ => lent(random, &[0, 1, 2, 12, 2048]),
+        };
+        CHOICES.map(room).into_iter().zip(CHOICES).map(|(lent, choice)| Call::List(asked, choice, lent)).collect()
+    }
+
+    /// How many cells list takes; 0 where it doesn't walk.
+    fn hits(&self, asked: &Bounds, choice: Choice) -> usize {
+        let is_pool = capacity_of(&self.words).is_some_and(|capacity| capacity == usize::from(self.words[0]));
+        match is_pool && !is_reversed(asked, Wrong::Nothing) {
+            true => list_hits(&self.words, asked, choice),
+            false => 0,
+        }
+    }
+
+    /// A call, or two lists.
+    fn calls(&self, random: &mut Random, style: Style) -> Vec<Call> {
         let bounds = if random.one_in(2) { self.grant.bounds } else { style.bounds(random) };
         let mut grant = Grant { number: self.number(random), bounds, ..self.grant };
         if random.one_in(10) {
             spoil(random, &mut grant);
         }
         let Grant { number, bounds, .. } = grant;
-        match random.below(24) {
+        vec![match random.below(24) {
             0..=3 => Call::Grant(grant),
             4..=5 => Call::Grant(self.grant),
             6..=9 => Call::Revoke(number),
-            10..=12 => {
-                let asked = [EVERYTHING, self.around_a_cell(random), bounds, bounds];
-                Call::List(random.pick(&asked), lent(random, &[0, 1, 2, 12, 2048]))
-            }
+            10..=12 => return self.lists(random, bounds),
             13..=15 => {
                 let [staff, doors, quarters] = bounds;
                 let mut end_of = |span: Span| random.pick(&[span.0, span.1]);
@@ -92,7 +131,7 @@ impl Scrambled {
             21 if random.one_in(6) => Call::Load(file(random, style, bounds[1]).into()),
             22 if random.one_in(6) => Call::Start,
             _ => Call::Count,
-        }
+        }]
     }
 }
 
@@ -271,6 +310,21 @@ fn emptied(random: &mut Random, capacity: usize, style: Style) -> Vec<u16> {
             _ => [from, to],
         };
         quarters.copy_from_slice(&odd);
+    }
+    words
+}
+
+/// The pool of an honest history with the staff or the doors of some cells reversed.
+fn reversed(random: &mut Random, capacity: usize, style: Style) -> Vec<u16> {
+    let grants = set_of_grants(random, style, capacity, (0, 65535));
+    let mut words = Honest::load(capacity, &grants, Wrong::Nothing).words;
+    for cell in 1..=capacity as u16 {
+        let spans = &mut words[left_of(cell) + 4..][..4];
+        match random.below(4) {
+            0 => spans.swap(0, 1),
+            1 => spans.swap(2, 3),
+            _ => {}
+        }
     }
     words
 }

@@ -1,5 +1,6 @@
 //! The calls, and how each is written on one line: in a failure's history and in the trace that the C and Python programs replay.
 
+use crate::interface::choice::Choice;
 use crate::interface::grant::{Bounds, Grant, Span};
 use std::fmt;
 use std::rc::Rc;
@@ -9,8 +10,8 @@ pub enum Call {
     Start,
     Grant(Grant),
     Revoke(u16),
-    /// A box, and the length of the lent list.
-    List(Bounds, usize),
+    /// A box, a choice, and the length of the lent list. In C the choice is one of two functions.
+    List(Bounds, Choice, usize),
     Decide([u16; 3]),
     Count,
     /// Doors, and how many bytes are lent.
@@ -29,7 +30,8 @@ impl Call {
             Call::Start => "start",
             Call::Grant(_) => "grant",
             Call::Revoke(_) => "revoke",
-            Call::List(..) => "list",
+            Call::List(_, Choice::Touching, _) => "list",
+            Call::List(_, Choice::Holding, _) => "list_holding",
             Call::Decide(_) => "decide",
             Call::Count => "count",
             Call::Write(..) => "write",
@@ -52,7 +54,7 @@ impl fmt::Display for Call {
                 write_bounds(f, &grant.bounds)
             }
             Call::Revoke(number) => write!(f, " {number}"),
-            Call::List(bounds, lent) => {
+            Call::List(bounds, _, lent) => {
                 write_bounds(f, bounds)?;
                 write!(f, " {lent}")
             }

@@ -16,7 +16,7 @@ impl Lent {
     /// other.
     pub fn before(call: &Call) -> Lent {
         match call {
-            Call::List(_, lent) => Lent::Words(pattern(*lent)),
+            Call::List(.., lent) => Lent::Words(pattern(*lent)),
             Call::Decide(_) => Lent::Words(pattern(10)),
             Call::Write(_, lent) => Lent::Bytes(pattern(*lent).into_iter().map(|word| word as u8).collect()),
             Call::CompareOpenings(door, panel) if Rc::ptr_eq(door, panel) => Lent::Bytes(door.to_vec()),

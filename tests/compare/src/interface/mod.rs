@@ -2,5 +2,6 @@
 
 pub mod answer;
 pub mod call;
+pub mod choice;
 pub mod grant;
 pub mod lent;

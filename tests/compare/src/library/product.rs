@@ -2,6 +2,7 @@
 
 use crate::interface::answer::{Answer, Fault};
 use crate::interface::call::Call;
+use crate::interface::choice::Choice;
 use crate::interface::grant::{Bounds, Grant};
 use crate::interface::lent::Lent;
 use crate::library::guarded::Guarded;
@@ -77,7 +78,9 @@ impl Product {
             (Call::Decide([staff, door, quarter]), Ok(out)) => {
                 pool::decide_into(words, *staff, *door, *quarter, out).map(|decision| Answer::Decided(decided(decision)))
             }
-            (Call::List(bounds, _), _) => pool::list(words, bounds_to(bounds), lent).map(Answer::Listed),
+            (Call::List(bounds, choice, _), _) => {
+                pool::list(words, bounds_to(bounds), choice_to(*choice), lent).map(Answer::Listed)
+            }
             _ => unreachable!("only list and decide are lent words"),
         }
     }
@@ -107,6 +110,13 @@ fn compared(numbers: lg::Comparison) -> Answer {
 fn bounds_to(bounds: &Bounds) -> lg::Bounds {
     let [staff, doors, quarters] = *bounds;
     lg::Bounds { staff, doors, quarters: lg::HalfOpen { from: quarters.0, until: quarters.1 } }
+}
+
+fn choice_to(choice: Choice) -> lg::Choice {
+    match choice {
+        Choice::Touching => lg::Choice::Touching,
+        Choice::Holding => lg::Choice::Holding,
+    }
 }
 
 fn decided(decision: lg::Decision) -> Option<Grant> {

@@ -54,7 +54,7 @@ pub fn rank_too_low(rank: u8, doors: Span, wrong: Wrong) -> bool {
 fn has_reversed_range(call: &Call, wrong: Wrong) -> bool {
     match call {
         Call::Grant(grant) => is_reversed(&grant.bounds, wrong),
-        Call::List(bounds, _) => is_reversed(bounds, wrong),
+        Call::List(bounds, ..) => is_reversed(bounds, wrong),
         Call::Write(doors, _) if wrong == Wrong::WriteOfOneDoorRefused => doors.0 >= doors.1,
         Call::Write(doors, _) => doors.0 > doors.1,
         _ => false,

@@ -1,9 +1,11 @@
 //! The plain book of documents 01 and 02: the live grants in a plain list, every question a scan of it.
 
 use crate::interface::answer::{fault, Fault};
+use crate::interface::choice::Choice;
 use crate::interface::grant::{Bounds, Grant, Span, DOORS};
 use crate::oracle::arguments::rank_too_low;
-use crate::oracle::overlap::{box_holds, boxes_overlap, spans_overlap};
+use crate::oracle::overlap::{box_holds, spans_overlap};
+use crate::oracle::relation::{count_needed, relation, takes};
 use crate::oracle::wrong::Wrong;
 
 #[derive(Clone)]
@@ -51,17 +53,20 @@ impl Book {
         Ok(self.live.remove(place))
     }
 
-    pub fn overlapping(&self, bounds: &Bounds) -> Vec<Grant> {
-        self.live.iter().filter(|grant| boxes_overlap(&grant.bounds, bounds, self.wrong)).copied().collect()
+    /// The grants that list takes under a choice.
+    pub fn taken(&self, bounds: &Bounds, choice: Choice) -> Vec<Grant> {
+        let is_taken = |grant: &&Grant| takes(choice, relation(&grant.bounds, bounds, self.wrong), self.wrong);
+        self.live.iter().filter(is_taken).copied().collect()
     }
 
-    fn holding(&self, point: [u16; 3]) -> Vec<Grant> {
+    /// The grants that hold a point.
+    fn at(&self, point: [u16; 3]) -> Vec<Grant> {
         self.live.iter().filter(|grant| box_holds(&grant.bounds, point, self.wrong)).copied().collect()
     }
 
     /// The numbers that list writes into `lent` elements.
-    pub fn list(&self, bounds: &Bounds, lent: usize) -> Result<Vec<u16>, Fault> {
-        let mut grants = self.overlapping(bounds);
+    pub fn list(&self, bounds: &Bounds, choice: Choice, lent: usize) -> Result<Vec<u16>, Fault> {
+        let mut grants = self.taken(bounds, choice);
         if self.wrong == Wrong::ListLeavesWideCellsOut {
             grants.retain(|grant| !rank_too_low(grant.rank, grant.bounds[DOORS], self.wrong));
         }
@@ -70,15 +75,16 @@ impl Book {
             numbers.reverse();
         }
         let lent = if self.wrong == Wrong::LengthsCutTo16Bits { lent & 0xFFFF } else { lent };
-        match numbers.len() > lent {
-            true => Err(Fault { number: 8, value: numbers.len() as u32 }),
-            false => Ok(numbers),
+        let touching = self.taken(bounds, Choice::Touching).len();
+        match count_needed(choice, numbers.len(), touching, lent, self.wrong) {
+            Some(needed) => Err(Fault { number: 8, value: needed as u32 }),
+            None => Ok(numbers),
         }
     }
 
     /// The grants at a point that have the highest rank there, ascending by number.
     pub fn of_highest_rank(&self, point: [u16; 3]) -> Vec<Grant> {
-        let mut grants = self.holding(point);
+        let mut grants = self.at(point);
         let highest = grants.iter().map(|grant| grant.rank).max();
         grants.retain(|grant| Some(grant.rank) == highest);
         grants

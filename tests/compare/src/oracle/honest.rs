@@ -3,6 +3,7 @@
 
 use crate::interface::answer::{Answer, Fault};
 use crate::interface::call::Call;
+use crate::interface::choice::Choice;
 use crate::interface::grant::{Grant, DOORS};
 use crate::interface::lent::Lent;
 use crate::oracle::arguments::rank_too_low;
@@ -54,8 +55,11 @@ impl Honest {
                 remove(&mut self.words, &grant, self.wrong);
                 Answer::Done
             }
-            Call::List(bounds, length) => {
-                let numbers = self.book.list(bounds, *length)?;
+            Call::List(bounds, choice, length) => {
+                let numbers = self.book.list(bounds, *choice, *length)?;
+                if self.wrong == Wrong::HoldingSortedOutInTheList {
+                    lend_numbers(lent, &self.book.list(bounds, Choice::Touching, *length).unwrap_or_default(), self.wrong);
+                }
                 lend_numbers(lent, &numbers, self.wrong);
                 Answer::Listed(numbers.len())
             }

@@ -1,10 +1,12 @@
-//! Document 01's marked cases, and cases of document 02's card 2, tried on the plain implementation: what the library is held against is
+//! Document 01's marked cases, and cases of document 02's cards 2 and 4, tried on the plain implementation: what the library is held against is
 //! itself held to the papers.
 
+use crate::interface::choice::Choice;
 use crate::interface::grant::{Grant, EVERYTHING};
 use crate::oracle::book::Book;
 use crate::oracle::file::check;
 use crate::oracle::overlap::{box_holds, boxes_overlap, spans_overlap};
+use crate::oracle::relation::{relation, Relation};
 use crate::oracle::tree::{goes_left, halves, holds, point_of, range_of, WHOLE};
 use crate::oracle::wrong::Wrong;
 
@@ -15,6 +17,7 @@ pub fn failing() -> Vec<&'static str> {
         ("axes and halves", halves_hold()),
         ("doors", doors_hold()),
         ("quarters", quarters_hold()),
+        ("holding", holding_holds()),
         ("slips", slips_hold()),
     ];
     cases.into_iter().filter(|(_, holds)| !holds).map(|(name, _)| name).collect()
@@ -48,6 +51,22 @@ fn quarters_hold() -> bool {
     covered && apart && is_hit(3, 8) && is_hit(4, 6) && !is_hit(3, 5) && !is_hit(5, 8)
 }
 
+/// A grant holds its own box and those inside it; it touches one that ends a quarter later, or has a door or a staff number more.
+fn holding_holds() -> bool {
+    let grant = [(100, 199), (1, 40), (56, 88)];
+    let cases = [
+        (grant, Relation::Holds),
+        ([(150, 150), (40, 40), (87, 88)], Relation::Holds),
+        ([(100, 199), (1, 40), (56, 89)], Relation::Touches),
+        ([(100, 199), (0, 40), (56, 88)], Relation::Touches),
+        ([(100, 200), (1, 40), (56, 88)], Relation::Touches),
+        (EVERYTHING, Relation::Touches),
+        ([(200, 200), (1, 40), (56, 88)], Relation::Apart),
+        ([(100, 199), (1, 40), (88, 89)], Relation::Apart),
+    ];
+    cases.iter().all(|(asked, right)| relation(&grant, asked, Wrong::Nothing) == *right)
+}
+
 /// The slips of the papers, as calls on the book.
 fn slips_hold() -> bool {
     let mut book = Book::new(2048, Wrong::Nothing);
@@ -55,7 +74,9 @@ fn slips_hold() -> bool {
     let three = Grant { number: 3, rank: 20, kind: 0, bounds: [(150, 150), (12, 12), (0, 65535)] };
     let granted = book.grant(seven).is_ok() && book.grant(three).is_ok();
     let again = book.grant(Grant { bounds: [(0, 0), (0, 0), (0, 1)], ..seven }).is_err_and(|fault| fault.number == 5);
-    let listed = book.list(&[(150, 150), (1, 20), (40, 41)], 2048) == Ok(vec![3, 7]);
+    let asked = [(150, 150), (1, 20), (40, 41)];
+    let listed =
+        book.list(&asked, Choice::Touching, 2048) == Ok(vec![3, 7]) && book.list(&asked, Choice::Holding, 2048) == Ok(vec![7]);
     let decided = book.decide([150, 12, 40]) == Some(three) && book.decide([200, 12, 40]).is_none();
     let revoked = book.revoke(3) == Ok(three) && book.decide([150, 12, 40]) == Some(seven);
     granted && again && listed && decided && revoked && book.live.len() == 1

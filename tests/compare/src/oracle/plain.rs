@@ -2,6 +2,7 @@
 
 use crate::interface::answer::{fault, Answer, Fault};
 use crate::interface::call::Call;
+use crate::interface::choice::Choice;
 use crate::interface::grant::{Grant, LAST_COVERED, LAST_QUARTER};
 use crate::interface::lent::Lent;
 use crate::oracle::arguments::{argument_fault, is_reversed_by_equal_quarters, is_too_wide};
@@ -10,6 +11,7 @@ use crate::oracle::honest::Honest;
 use crate::oracle::judge::{self, judge, Contents};
 use crate::oracle::layout::capacity_of;
 use crate::oracle::openings;
+use crate::oracle::positions::Asked;
 use crate::oracle::scrambled;
 use crate::oracle::sound::grants_in;
 use crate::oracle::wrong::Wrong;
@@ -21,8 +23,9 @@ pub struct Expected {
     pub lent: Lent,
     /// The pool's words are free: an accepted grant or revoke on a scrambled pool.
     pub pool_is_free: bool,
-    /// What was reached that a run must reach, in words: the cause of a refusal, or how decide is answered at the last quarters.
-    pub reached: Option<String>,
+    /// What was reached that a run must reach, in words: the cause of a refusal, how decide is answered at the last quarters, how the box
+    /// of a list lies.
+    pub reached: Vec<String>,
 }
 
 enum Standing {
@@ -83,9 +86,19 @@ impl Plain {
         let mut lent = Lent::before(call);
         let outcome = self.answer(call, &mut lent);
         let free = matches!(outcome, Ok(None));
-        let (answer, reached) = match outcome {
-            Ok(answer) => (answer, self.at_the_last_quarters(call)),
-            Err((fault, cause)) => (Some(Answer::Refused(fault)), Some(format!("{} {}{cause}", call.name(), fault.number))),
+        let mut reached = match &outcome {
+            Ok(_) | Err((Fault { number: 8, .. }, _)) => self.positions(call),
+            Err(_) => Vec::new(),
+        };
+        let answer = match outcome {
+            Ok(answer) => {
+                reached.extend(self.at_the_last_quarters(call));
+                answer
+            }
+            Err((fault, cause)) => {
+                reached.push(format!("{} {}{cause}", call.name(), fault.number));
+                Some(Answer::Refused(fault))
+            }
         };
         Expected { answer, lent, pool_is_free: free && matches!(call, Call::Grant(_) | Call::Revoke(_)), reached }
     }
@@ -107,6 +120,9 @@ impl Plain {
         }
         if let (Call::Decide([_, _, LAST_QUARTER]), Wrong::LastQuarterBeforeThePool) = (call, self.wrong) {
             return Ok(Some(Answer::Decided(None)));
+        }
+        if let (Call::List(_, Choice::Holding, _), Wrong::HoldingBoxBeforeThePool) = (call, self.wrong) {
+            argument_fault(call, self.wrong).map_or(Ok(()), |fault| Err((fault, String::new())))?;
         }
         let capacity = self.capacity(call).ok_or_else(|| (fault(1), beside_one(call)))?;
         match call {
@@ -140,7 +156,13 @@ impl Plain {
     /// The calls that walk.
     fn walk(&mut self, call: &Call, lent: &mut Lent) -> Result<Option<Answer>, Refused> {
         if let Some(fault) = argument_fault(call, self.wrong) {
-            if self.wrong == Wrong::WalksBeforeArguments || self.wrong == Wrong::WalksBeforeWide && fault.number == 16 {
+            let walks_before = match self.wrong {
+                Wrong::WalksBeforeArguments => true,
+                Wrong::WalksBeforeWide => fault.number == 16,
+                Wrong::HoldingWalksBeforeTheBox => matches!(call, Call::List(_, Choice::Holding, _)),
+                _ => false,
+            };
+            if walks_before {
                 scrambled_step(self.words(), call, None, self.wrong)?;
             }
             return Err((fault, self.masked(call, fault)));
@@ -165,6 +187,22 @@ impl Plain {
             2 if is_reversed_by_equal_quarters(call) && !is_too_wide(call, Wrong::Nothing) => " equal quarters".to_string(),
             _ => before_sixteen(call),
         }
+    }
+
+    /// Of a list whose walk came to its end: how its box lies to the grants, or to the cells.
+    fn positions(&self, call: &Call) -> Vec<String> {
+        let Call::List(bounds, choice, lent) = call else {
+            return Vec::new();
+        };
+        if self.wrong != Wrong::Nothing {
+            return Vec::new();
+        }
+        let asked = Asked { bounds, choice: *choice, lent: *lent };
+        let positions = match &self.standing {
+            Standing::Honest(honest) => asked.of_grants(&honest.book.live),
+            Standing::Scrambled(words) => asked.of_cells(words, &scrambled::list_walk(words, bounds, *choice, self.wrong).0),
+        };
+        positions.into_iter().map(|position| format!("{} {position}", call.name())).collect()
     }
 
     /// Of an accepted decide: that a grant decides at 65534; that none does at 65535 although one does a quarter before, or although 9

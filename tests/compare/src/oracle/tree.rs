@@ -1,6 +1,6 @@
 //! Points, ranges and regions on seven axes (document 01, "Boxes as points" and "The tree"; document 02, card 2).
 
-use crate::interface::grant::{Bounds, Span, EVERYTHING, LAST_QUARTER};
+use crate::interface::grant::{Bounds, Grant, Span, EVERYTHING, LAST_QUARTER};
 use crate::oracle::layout::cell_words;
 use crate::oracle::wrong::Wrong;
 
@@ -24,6 +24,12 @@ pub fn point_of(number: u16, bounds: &Bounds) -> Point {
 pub fn point_in(words: &[u16], cell: u16) -> Point {
     let cell = cell_words(words, cell);
     [cell[4], cell[6], cell[8], cell[5], cell[7], cell[9], cell[2]]
+}
+
+/// The box that a cell's words say.
+pub fn bounds_in(words: &[u16], cell: u16) -> Bounds {
+    let cell = cell_words(words, cell);
+    Grant::bounds_of([cell[4], cell[5], cell[6], cell[7], cell[8], cell[9]])
 }
 
 /// The search range of a box: a quarter from below the box's to, a quarter to above its from. Both bounds are 0 to 65535 for a box without

@@ -92,18 +92,29 @@ impl<'a> Walk<'a> {
 
 /// A search: its hits in order, a cell as often as it is met.
 pub fn search(words: &[u16], range: &Region, wrong: Wrong) -> Result<Vec<Hit>, Nine> {
+    let (hits, cause) = search_until_nine(words, range, wrong);
+    cause.map_or(Ok(hits), Err)
+}
+
+/// The hits that a search has when it ends, and the cause of 9 that ended it.
+pub fn search_until_nine(words: &[u16], range: &Region, wrong: Wrong) -> (Vec<Hit>, Option<Nine>) {
     let mut hits = Vec::new();
-    Walk::new(words, "search", wrong).enter(words[ROOT], 0, &WHOLE, range, &mut hits)?;
+    let cause = Walk::new(words, "search", wrong).enter(words[ROOT], 0, &WHOLE, range, &mut hits).err();
     if wrong == Wrong::HitsOnce {
-        let mut seen = Vec::new();
-        hits.retain(|hit| {
-            !seen.contains(&hit.cell) && {
-                seen.push(hit.cell);
-                true
-            }
-        });
+        keep_once(&mut hits);
     }
-    Ok(hits)
+    (hits, cause)
+}
+
+/// Keeps each cell where it is met first.
+pub fn keep_once(hits: &mut Vec<Hit>) {
+    let mut seen = Vec::new();
+    hits.retain(|hit| {
+        !seen.contains(&hit.cell) && {
+            seen.push(hit.cell);
+            true
+        }
+    });
 }
 
 /// Grant's way down by the half that holds the point, to the first blank link.

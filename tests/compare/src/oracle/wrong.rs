@@ -1,5 +1,7 @@
 //! Wrong versions of the plain implementation: each breaks one sentence of documents 01 and 02, and the comparison must catch it.
 
+use crate::interface::grant::End;
+
 #[derive(Clone, Copy, Debug, PartialEq, Eq)]
 pub enum Wrong {
     /// As the documents have it.
@@ -85,10 +87,32 @@ pub enum Wrong {
     WriteOfOneDoorRefused,
     RecordsOfOneDoorRefused,
     QuartersEnteredAsClosed,
+    HoldingOnDoorsAndQuarters,
+    HoldingOnStaffAndQuarters,
+    HoldingOnStaffAndDoors,
+    BoxHoldsTheGrant,
+    ReversedCellsHold,
+    HoldingNotTouching,
+    TouchingListedUnderHolding,
+    EightByTouching,
+    CountByTouching,
+    EightByTouchingOnScrambledPools,
+    CountByTouchingOnScrambledPools,
+    HoldingCountsACellOnce,
+    HoldingSortedOutInTheList,
+    HoldingWalksItsOwnRange,
+    HoldingWalksEverything,
+    HoldingWalksBeforeTheBox,
+    HoldingBoxBeforeThePool,
+    HoldingEightBeforeNine,
+    HoldingStrictAt(End),
+    HoldingLooseAt(End),
+    /// Not one of `ALL`: no box that fault 2 lets through shows it, as `points` tries.
+    HoldsTestedFirst,
 }
 
-/// All of them, but for the right one.
-pub const ALL: [Wrong; 81] = [
+/// All of them that a call can show.
+pub const ALL: [Wrong; 111] = [
     Wrong::LowerNumberAtEqualRank,
     Wrong::EndsOutsideTheBox,
     Wrong::ListDescending,
@@ -170,4 +194,34 @@ pub const ALL: [Wrong; 81] = [
     Wrong::WriteOfOneDoorRefused,
     Wrong::RecordsOfOneDoorRefused,
     Wrong::QuartersEnteredAsClosed,
+    Wrong::HoldingOnDoorsAndQuarters,
+    Wrong::HoldingOnStaffAndQuarters,
+    Wrong::HoldingOnStaffAndDoors,
+    Wrong::BoxHoldsTheGrant,
+    Wrong::ReversedCellsHold,
+    Wrong::HoldingNotTouching,
+    Wrong::TouchingListedUnderHolding,
+    Wrong::EightByTouching,
+    Wrong::CountByTouching,
+    Wrong::EightByTouchingOnScrambledPools,
+    Wrong::CountByTouchingOnScrambledPools,
+    Wrong::HoldingCountsACellOnce,
+    Wrong::HoldingSortedOutInTheList,
+    Wrong::HoldingWalksItsOwnRange,
+    Wrong::HoldingWalksEverything,
+    Wrong::HoldingWalksBeforeTheBox,
+    Wrong::HoldingBoxBeforeThePool,
+    Wrong::HoldingEightBeforeNine,
+    Wrong::HoldingStrictAt(End::StaffFrom),
+    Wrong::HoldingStrictAt(End::StaffTo),
+    Wrong::HoldingStrictAt(End::DoorFrom),
+    Wrong::HoldingStrictAt(End::DoorTo),
+    Wrong::HoldingStrictAt(End::QuarterFrom),
+    Wrong::HoldingStrictAt(End::QuarterTo),
+    Wrong::HoldingLooseAt(End::StaffFrom),
+    Wrong::HoldingLooseAt(End::StaffTo),
+    Wrong::HoldingLooseAt(End::DoorFrom),
+    Wrong::HoldingLooseAt(End::DoorTo),
+    Wrong::HoldingLooseAt(End::QuarterFrom),
+    Wrong::HoldingLooseAt(End::QuarterTo),
 ];

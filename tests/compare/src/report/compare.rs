@@ -2,11 +2,12 @@
 
 use crate::cases::case::Case;
 use crate::interface::answer::Answer;
+use crate::interface::grant::Grant;
 use crate::library::product::{Observed, Product};
 use crate::oracle::plain::{Expected, Plain};
 use crate::oracle::sound::is_sound;
 use crate::oracle::wrong::Wrong;
-use crate::report::promises;
+use crate::report::{banks, promises};
 use std::collections::BTreeMap;
 
 /// Where the two first differ, and how.
@@ -25,6 +26,8 @@ pub struct Tally {
     /// How often a grant decided, and how often its number did, among grants of equal rank.
     pub decisions: usize,
     pub ties: usize,
+    /// How many lists of banks were head office's.
+    pub bank_lists: usize,
 }
 
 pub fn run(case: &Case, wrong: Wrong, tally: &mut Tally) -> Result<(), Difference> {
@@ -45,15 +48,22 @@ pub fn run(case: &Case, wrong: Wrong, tally: &mut Tally) -> Result<(), Differenc
         let equals = plain.of_highest_rank(call);
         tally.decisions += usize::from(equals > 0);
         tally.ties += usize::from(equals > 1);
-        if let Some(reached) = expected.reached {
+        for reached in expected.reached {
             *tally.reached.entry(reached).or_default() += 1;
         }
     }
-    match plain.live() {
-        Some(live) if !is_sound(product.words(), live) => {
-            Err(Difference { at: case.calls.len().saturating_sub(1), what: "the pool is not sound".to_string() })
-        }
-        _ => Ok(()),
+    if let Some(live) = plain.live() {
+        tally.bank_lists +=
+            left_right(&mut product, live).map_err(|what| Difference { at: case.calls.len().saturating_sub(1), what })?;
+    }
+    Ok(())
+}
+
+/// Of a pool that calls made, after all of them: that it is sound, and how many lists of its banks are its own.
+fn left_right(product: &mut Product, live: &[Grant]) -> Result<usize, String> {
+    match is_sound(product.words(), live) {
+        false => Err("the pool is not sound".to_string()),
+        true => banks::lists_alike(product, live),
     }
 }
 

@@ -1,14 +1,17 @@
 //! What a run must have seen: each fault of each call by the documents' order line, 16 together with each other fault of grant, 2 by equal
 //! quarters alone, each cause of 9 in each walk, each cause of 11, 12 and 13 in each block that can have it, each cause of 24 and 25 in
-//! either record of openings; hits whose quarters cover nothing, and decide at the last quarters.
+//! either record of openings; hits whose quarters cover nothing, and decide at the last quarters; under either choice of list, boxes at
+//! each end of a grant, lists one too short, and cells that no grant is like.
 
+use crate::interface::grant::ENDS;
 use std::collections::BTreeMap;
 
-const BY_CALL: [(&str, &[u8]); 7] = [
+const BY_CALL: [(&str, &[u8]); 8] = [
     ("start", &[1]),
     ("grant", &[1, 3, 4, 2, 16, 5, 6]),
     ("revoke", &[1, 3, 7]),
     ("list", &[1, 2, 8]),
+    ("list_holding", &[1, 2, 8]),
     ("decide", &[1]),
     ("count", &[1]),
     ("write", &[1, 2, 14]),
@@ -22,10 +25,11 @@ const WITH_SIXTEEN: [&str; 7] = [
     "grant 16 before 5",
     "grant 16 before 6",
 ];
-const ON_SCRAMBLED: [&str; 5] = ["grant 5", "grant 6", "revoke 7", "list 8", "write 14"];
-const WITH_ODD_QUARTERS: [&str; 4] = [
+const ON_SCRAMBLED: [&str; 6] = ["grant 5", "grant 6", "revoke 7", "list 8", "list_holding 8", "write 14"];
+const WITH_ODD_QUARTERS: [&str; 5] = [
     "grant 2 equal quarters",
     "list 2 equal quarters",
+    "list_holding 2 equal quarters",
     "list 8 on a scrambled pool, a hit with equal quarters",
     "list 8 on a scrambled pool, a hit with reversed quarters",
 ];
@@ -35,7 +39,16 @@ const AT_THE_LAST_QUARTERS: [&str; 4] = [
     "decide none at 65535, 9 at 65534",
     "decide 1 at 65535",
 ];
-const SEARCHING: [&str; 7] = ["grant", "revoke", "list", "decide", "count", "write", "match"];
+const SEARCHING: [&str; 8] = ["grant", "revoke", "list", "list_holding", "decide", "count", "write", "match"];
+const HELD_ON_TWO: [&str; 3] = ["staff and doors", "staff and quarters", "doors and quarters"];
+const BY_ROOM: [&str; 2] = ["one too short where fewer hold", "just long enough where fewer hold"];
+const OF_CELLS: [&str; 5] = [
+    "a cell with the box's staff reversed",
+    "a cell with the box's doors reversed",
+    "a cell with reversed quarters",
+    "a cell with equal quarters",
+    "a cell that holds the box, met twice",
+];
 const OF_NINE: [&str; 3] = ["a link above C", "a cell below level 112", "more than C cells"];
 const OTHER_WALKS: [&str; 3] =
     ["grant 9 way down: a cell below level 112", "grant 9 free head: a link above C", "grant 9 free cell's left: a link above C"];
@@ -63,6 +76,7 @@ pub fn missing(reached: &BTreeMap<String, usize>) -> Vec<String> {
         required.extend(of_blocks(call));
     }
     required.push("load 6".to_string());
+    required.extend(["list", "list_holding"].iter().flat_map(|call| of_lists(call)));
     required.extend(of_block_read());
     required.extend(of_openings());
     required.retain(|what| !reached.contains_key(what));
@@ -76,6 +90,17 @@ fn of_pools() -> Vec<String> {
     let removals = OF_NINE.iter().map(|cause| format!("revoke 9 removal: {cause}"));
     let others = OTHER_WALKS.iter().chain(&WITH_SIXTEEN).chain(&WITH_ODD_QUARTERS).chain(&AT_THE_LAST_QUARTERS);
     by_call.chain(scrambled).chain(searches).chain(removals).chain(others.map(|what| what.to_string())).collect()
+}
+
+fn of_lists(call: &str) -> Vec<String> {
+    let mut required = vec![format!("{call} the box of a grant")];
+    for side in ["inside", "outside"] {
+        required.extend(ENDS.iter().map(|end| format!("{call} a box one {side} a grant at {end:?}")));
+    }
+    required.extend(HELD_ON_TWO.iter().map(|two| format!("{call} a box held on {two} alone")));
+    required.extend(BY_ROOM.iter().map(|room| format!("{call} {room}")));
+    required.extend(BY_ROOM.iter().chain(&OF_CELLS).map(|position| format!("{call} {position}, on a scrambled pool")));
+    required
 }
 
 fn of_head(call: &str) -> Vec<String> {

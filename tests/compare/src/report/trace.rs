@@ -13,8 +13,10 @@ use std::io::{self, BufWriter, Write};
 /// Rounds that the trace takes its cases from, and how many calls of a case at most.
 const ROUNDS: usize = 2;
 const CALLS: usize = 120;
-/// How many faults there are, document 02's with them; a trace has each.
+/// How many faults there are, document 02's with them; a trace has each, and each of either list.
 const FAULTS: usize = 17;
+const OF_LISTS: [&str; 8] =
+    ["list 1", "list 2", "list 8", "list 9", "list_holding 1", "list_holding 2", "list_holding 8", "list_holding 9"];
 
 /// CRC-32, as zlib has it.
 fn digest(bytes: impl IntoIterator<Item = u8>) -> u32 {
@@ -53,9 +55,16 @@ pub fn write_file(path: &str, seed: u64) -> bool {
         out.flush()
     });
     let written = written.inspect_err(|error| println!("compare: {path}: {error}")).is_ok();
+    written && has_all(path, &counts)
+}
+
+/// Whether a trace has every fault, and those of either list; says what it lacks.
+fn has_all(path: &str, counts: &Counts) -> bool {
     let seen = counts.faults();
-    if written && seen != FAULTS {
+    if seen != FAULTS {
         println!("compare: {path}: the trace has {seen} faults, and not {FAULTS}");
     }
-    written && seen == FAULTS
+    let lacking: Vec<&str> = OF_LISTS.into_iter().filter(|refusal| !counts.has(refusal)).collect();
+    lacking.iter().for_each(|refusal| println!("compare: {path}: the trace lacks {refusal}"));
+    seen == FAULTS && lacking.is_empty()
 }

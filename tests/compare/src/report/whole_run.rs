@@ -4,10 +4,10 @@ use crate::cases::case::Case;
 use crate::cases::random::Random;
 use crate::cases::suite::{self, Family};
 use crate::interface::call::Call;
-use crate::oracle::marked;
 use crate::oracle::wrong::{self, Wrong};
+use crate::oracle::{marked, points};
 use crate::report::compare::{run, Tally};
-use crate::report::{required, self_test, shrink};
+use crate::report::{banks, required, self_test, shrink};
 use std::collections::BTreeSet;
 
 /// Every so many rounds comes a long one.
@@ -34,6 +34,13 @@ impl Counts {
     /// How many of the documents' faults were seen.
     pub fn faults(&self) -> usize {
         self.refusals().collect::<BTreeSet<_>>().len()
+    }
+
+    /// Whether a call was refused with a number, as `list 8`, by any cause.
+    pub fn has(&self, refusal: &str) -> bool {
+        let is_of =
+            |reached: &String| reached.strip_prefix(refusal).is_some_and(|cause| cause.is_empty() || cause.starts_with(' '));
+        self.tally.reached.keys().any(is_of)
     }
 
     /// Runs a case; on a difference prints the shortest history that shows it.
@@ -74,21 +81,30 @@ pub fn compare(seed: u64, rounds: usize) -> bool {
     let uncaught = self_test::uncaught(seed);
     println!("{}", summary(seed, &counts, uncaught.len()));
     let missing = required::missing(&counts.tally.reached);
-    let failing = marked::failing();
+    let failing = failing();
     let ties_are_common = counts.tally.ties * DECISIONS_PER_TIE >= counts.tally.decisions.max(1);
     missing.iter().for_each(|refusal| println!("compare: not reached: {refusal}"));
     uncaught.iter().for_each(|wrong| println!("compare: not caught: {wrong:?}"));
-    failing.iter().for_each(|name| println!("compare: marked cases that the scan gets wrong: {name}"));
+    failing.iter().for_each(|what| println!("compare: {what}"));
     if !ties_are_common {
         println!("compare: fewer than one decision in {DECISIONS_PER_TIE} was between grants of equal rank");
     }
     missing.is_empty() && uncaught.is_empty() && failing.is_empty() && ties_are_common
 }
 
+/// What the comparison itself has wrong.
+fn failing() -> Vec<String> {
+    let marked = marked::failing().into_iter().map(|name| format!("marked cases that the scan gets wrong: {name}"));
+    let points = points::failing().into_iter().map(|name| format!("not as single points have it: {name}"));
+    let banks = (!banks::notices_a_lack()).then(|| "a bank that lacks a grant is not noticed".to_string());
+    marked.chain(points).chain(banks).collect()
+}
+
 fn summary(seed: u64, counts: &Counts, uncaught: usize) -> String {
     format!(
         "compare: seed {seed}: {} calls, {} files, {} pairs of records and {} scrambled pools as documents 01 and 02 have them; \
-         {} faults reached by {} causes; {} decisions, {} at equal rank; {} of {} wrong versions caught",
+         {} faults reached by {} causes; {} decisions, {} at equal rank; {} lists of banks as head office has them; \
+         {} of {} wrong versions caught",
         counts.tally.calls,
         counts.files,
         counts.pairs,
@@ -97,6 +113,7 @@ fn summary(seed: u64, counts: &Counts, uncaught: usize) -> String {
         counts.refusals().count(),
         counts.tally.decisions,
         counts.tally.ties,
+        counts.tally.bank_lists,
         wrong::ALL.len() - uncaught,
         wrong::ALL.len()
     )

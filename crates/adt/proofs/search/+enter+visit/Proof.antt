@@ -15,7 +15,7 @@ use Rattle.pool.specs.Capacity.{poolLength}
 use Rattle.geometry.specs.Axis.{axisOf}
 use Rattle.geometry.specs.Levels.{levels}
 use Rattle.geometry.specs.Region.{Region, half, meets}
-use Rattle.adt.specs.Search.{inRange}
+use Rattle.adt.specs.Predicate.{passes, predicateIn}
 use Rattle.adt.specs.SearchMemory.{Counted, Encodes, Visiting, Entering}
 use Rattle.adt.proofs.EnterSteps.{ChildRegion, child-meets, child-half, child-root, child-deep, child-apart, child-past, child-visited}
 use Rattle.adt.proofs.EnterSteps.{encodes-as, subtree, subtree-blank, subtree-entered, visit-cut, visit-left-cut, visit-whole}
@@ -36,23 +36,23 @@ use Rattle.pool.proofs.layout.wide.Reads as wide-reads
 use Rattle.adt.proofs.search.+enter+visit.{statement}
 use Rattle.adt.proofs.search.+enter+visit.Tie.{close}
 
-abbrev μ-enter : Measures 4 enter-kinds.ps ℕ
+abbrev μ-enter : Measures 5 enter-kinds.ps ℕ
 μ-enter κs a = 2 * a .1 .1 .0
 
-abbrev μ-visit : Measures 4 visit-kinds.ps ℕ
+abbrev μ-visit : Measures 5 visit-kinds.ps ℕ
 μ-visit κs a = 2 * a .1 .1 .0 + 1
 
-abbrev enter-at : ℕ → In 4 enter-kinds.ps
-enter-at t = and 4 enter-kinds.ps (is 4 enter-kinds.ps μ-enter t) enter.Pre
+abbrev enter-at : ℕ → In 5 enter-kinds.ps
+enter-at t = and 5 enter-kinds.ps (is 5 enter-kinds.ps μ-enter t) enter.Pre
 
-abbrev enter-below : ℕ → In 4 enter-kinds.ps
-enter-below t = and 4 enter-kinds.ps (falls 4 enter-kinds.ps _<_ μ-enter t) enter.Pre
+abbrev enter-below : ℕ → In 5 enter-kinds.ps
+enter-below t = and 5 enter-kinds.ps (falls 5 enter-kinds.ps _<_ μ-enter t) enter.Pre
 
-abbrev visit-at : ℕ → In 4 visit-kinds.ps
-visit-at t = and 4 visit-kinds.ps (is 4 visit-kinds.ps μ-visit t) visit.Pre
+abbrev visit-at : ℕ → In 5 visit-kinds.ps
+visit-at t = and 5 visit-kinds.ps (is 5 visit-kinds.ps μ-visit t) visit.Pre
 
-abbrev visit-below : ℕ → In 4 visit-kinds.ps
-visit-below t = and 4 visit-kinds.ps (falls 4 visit-kinds.ps _<_ μ-visit t) visit.Pre
+abbrev visit-below : ℕ → In 5 visit-kinds.ps
+visit-below t = and 5 visit-kinds.ps (falls 5 visit-kinds.ps _<_ μ-visit t) visit.Pre
 
 abbrev enter-calls : ℕ → enter-lts.Claims
 enter-calls t = (
@@ -243,16 +243,17 @@ entering v counted near leads =
 left-subtree : (t : ℕ) (c : visit-lts.Joined2 (visit-calls t) (visit-at t) visit.Post)
     → let tested = c .before .before .before .before in
     let a = tested .before .before .before .before .args in
-    let exit = tested .test .last .1 .1 .1 .1 .1 .1 in
+    let exit = tested .test .last .1 .1 .1 .1 .1 .1 .1 in
+    let isHit = passes (predicateIn (a .predicate .now)) (a .range .now) in
     Encodes (a .cells) true (c .if2 .hits) (c .if2 .counters)
-    (subtree (a .pool .now) (a .cells) (a .range .now) (inRange (a .range .now)) (a .below) (a .k) Left (a .region) (exit .0) (exit .1 .0))
+    (subtree (a .pool .now) (a .cells) (a .range .now) isHit (a .below) (a .k) Left (a .region) (exit .0) (exit .1 .0))
 left-subtree t c =
     let linked = c .before .before in
     let tested = linked .before .before in
     let start = tested .before .before .before .before in
     let a = start .args in
     let p = start .pre .1 in
-    let exit = tested .test .last .1 .1 .1 .1 .1 .1 in
+    let exit = tested .test .last .1 .1 .1 .1 .1 .1 .1 in
     ⊎-elim
     (λ w.
     encodes-as
@@ -290,7 +291,7 @@ visit-returns-2 t c =
     let start = tested .before .before .before .before in
     let a = start .args in
     let p = start .pre .1 in
-    let exit = tested .test .last .1 .1 .1 .1 .1 .1 in
+    let exit = tested .test .last .1 .1 .1 .1 .1 .1 .1 in
     visit-left-cut (a .pool .now) (a .cells) (a .range .now) _ (a .below) (a .link) (a .k) (a .region) (a .hits .now) (a .counters .now)
     (tested .test .ensures) (not-false _ (one .if1 .left))
     (subtree-entered (a .pool .now) (a .cells) (a .range .now) _ (a .below) (a .k) Left (a .region) (exit .0) (exit .1 .0) (p .in-levels)

@@ -31,12 +31,15 @@ returns-2 c =
     let m = root ∙ sym (asked .meets-range .ensures) ∙ not-true _ (c .if2 .taken) in
     search-apart _ _ (start .pre .0) _ refl (rooted .before .if1 .left) m
 
+words-of-requires : tie.Need-words-of-requires
+words-of-requires c κs = search needs
+
 add-enter : tie.Need-add-enter
 add-enter c = search needs
 
 enter-requires : tie.Need-enter-requires
 enter-requires c κs =
-    let two = c .before .before in
+    let two = c .before .before .before .before in
     let asked = two .before in
     let rooted = asked .before .before in
     let start = rooted .before .before .before .before in
@@ -53,8 +56,10 @@ enter-requires c κs =
 
 returns-3 : tie.Need-returns-3
 returns-3 c =
-    let rooted = c .before .before .before .before .before .before in
-    search-entered _ _ (rooted .before .before .before .before .pre .0) (rooted .root-region .ensures) (c .enter .ensures)
+    let worded = c .before .before .before .before in
+    let rooted = worded .before .before .before .before in
+    rw (← worded .words-of .ensures)
+    (search-entered _ _ (rooted .before .before .before .before .pre .0) (rooted .root-region .ensures) (c .enter .ensures))
 
 pub search-spec : {M : Type 1} → statement M
 search-spec =
@@ -65,6 +70,7 @@ search-spec =
     root-region-requires
     meets-range-requires
     returns-2
+    words-of-requires
     add-enter
     enter-requires
     returns-3)

@@ -5,10 +5,10 @@ use Rattle.commands.proofs.who.say_rows.Statement.{statement}
 use Rattle.commands.proofs.who.say_rows.Tie as tie
 
 abbrev Inv-loop : tie.InvT-loop
-Inv-loop pool base door quarter i₀ room₀ i room = i + room ≤ 65551
+Inv-loop pool base door quarter rows i₀ room₀ i room = i + room ≤ 65551
 
 abbrev μ-loop : tie.MeasureT-loop
-μ-loop pool base door quarter i₀ room₀ i room = room
+μ-loop pool base door quarter rows i₀ room₀ i room = room
 
 loop-holds : tie.Need-loop-holds Inv-loop μ-loop
 loop-holds c = search needs

@@ -2,8 +2,7 @@
 use mathlib.Core.Path.{refl, sym, subst, _∙_}
 use native.Mathlib.Omega.{arith}
 use Rattle.grants_file.proofs.GrantSteps.{accepted-whole}
-use Rattle.adt.specs.Search.{inRange}
-use Rattle.steps.proofs.HitsLaws.{found-hits}
+use Rattle.steps.proofs.HitsLaws.{found-cells}
 use Rattle.calls.proofs.RefusalSteps.{pool-taken}
 use Rattle.file_calls.proofs.MatchSteps.{file-taken, match-bad, match-file, match-broken, match-done}
 use Rattle.geometry.specs.SearchRange.{OneSided}
@@ -86,7 +85,7 @@ returns-3 c =
 sort-cells-requires : tie.Need-sort-cells-requires
 sort-cells-requires c κs =
     let found = c .before .before .before in
-    (found-hits _ inRange refl _ (found .before .before .find-hits .ensures) (found .found .given .1) .cells, refl)
+    (found-cells _ _ _ _ (found .before .before .find-hits .ensures) (found .found .given .1), refl)
 
 first-difference-requires : tie.Need-first-difference-requires
 first-difference-requires c κs =

@@ -3,8 +3,7 @@ use Prim.Native.Nat.{ℕ, _*_}
 use mathlib.Core.Path.{refl, sym, ap, subst}
 use native.Mathlib.Omega.{arith}
 use Rattle.calls.proofs.RefusalSteps.{pool-taken}
-use Rattle.adt.specs.Search.{inRange}
-use Rattle.steps.proofs.HitsLaws.{found-hits}
+use Rattle.steps.proofs.HitsLaws.{found-cells}
 use Rattle.file_calls.proofs.WriteSteps.{write-bad, write-reversed, write-broken, write-short, write-done}
 use Rattle.geometry.specs.SearchRange.{OneSided}
 use Rattle.geometry.proofs.SearchRangeLaws.{doors-one-sided}
@@ -55,12 +54,12 @@ returns-3 c =
 blocks-for-requires : tie.Need-blocks-for-requires
 blocks-for-requires c κs =
     let found = c .before in
-    omega (arith, found-hits _ inRange refl _ (found .before .before .find-hits .ensures) (found .found .given .1) .cells .few)
+    omega (arith, found-cells _ _ _ _ (found .before .before .find-hits .ensures) (found .found .given .1) .few)
 
 mul-needed : tie.Need-mul-needed
 mul-needed c =
     let found = c .before .before in
-    omega (arith, c .blocks-for .ensures, found-hits _ inRange refl _ (found .before .before .find-hits .ensures) (found .found .given .1) .cells .few)
+    omega (arith, c .blocks-for .ensures, found-cells _ _ _ _ (found .before .before .find-hits .ensures) (found .found .given .1) .few)
 
 returns-4 : tie.Need-returns-4
 returns-4 c =
@@ -78,7 +77,7 @@ returns-4 c =
 sort-cells-requires : tie.Need-sort-cells-requires
 sort-cells-requires c κs =
     let found = c .before .before .before .before .before in
-    (found-hits _ inRange refl _ (found .before .before .find-hits .ensures) (found .found .given .1) .cells, refl)
+    (found-cells _ _ _ _ (found .before .before .find-hits .ensures) (found .found .given .1), refl)
 
 write-file-requires : tie.Need-write-file-requires
 write-file-requires c κs =

@@ -43,11 +43,11 @@ array-read-wide c = search needs
 wide-requires : tie.Need-wide-requires
 wide-requires c κs = search needs
 
-array-read-t21 : tie.Need-array-read-t21
-array-read-t21 c = search needs
+array-read-t22 : tie.Need-array-read-t22
+array-read-t22 c = search needs
 
-array-read-t24 : tie.Need-array-read-t24
-array-read-t24 c = search needs
+array-read-t25 : tie.Need-array-read-t25
+array-read-t25 c = search needs
 
 returns-3 : tie.Need-returns-3
 returns-3 c =
@@ -69,6 +69,6 @@ find-number-spec =
     returns-2
     array-read-wide
     wide-requires
-    array-read-t21
-    array-read-t24
+    array-read-t22
+    array-read-t25
     returns-3)

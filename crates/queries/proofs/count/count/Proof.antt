@@ -38,8 +38,8 @@ returns-2 c =
     count-broken (start .args .pool .now) (tested .before .capacity .ensures) (tested .if1 .left)
     (ranged .root-region .ensures) _ (searched .find-hits .ensures) (c .enum-told .given .1)
 
-sub-t13 : tie.Need-sub-t13
-sub-t13 c =
+sub-t14 : tie.Need-sub-t14
+sub-t14 c =
     let searched = c .before .before .before in
     let ranged = searched .before .before .before in
     let tested = ranged .before in
@@ -67,5 +67,5 @@ count-spec =
     enum-known-live
     enum-told
     returns-2
-    sub-t13
+    sub-t14
     returns-3)

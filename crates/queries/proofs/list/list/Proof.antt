@@ -1,13 +1,10 @@
 -- `list::list` meets its contract, test by test. Assumes nothing.
 use Rattle.model.proofs.QuarterLaws.{forward-quarters}
 use Rattle.calls.proofs.RefusalSteps.{pool-taken}
-use Rattle.adt.specs.Search.{inRange}
-use Rattle.steps.proofs.HitsLaws.{found-hits, cells-part}
+use Rattle.steps.proofs.HitsLaws.{found-cells, cells-part}
 use Rattle.queries.proofs.ListSteps.{list-bad, list-reversed, list-broken, list-short, list-done}
-use mathlib.Core.Path.{refl, sym, subst, _∙_}
+use mathlib.Core.Path.{refl, sym, _∙_}
 use lib.Seq.{length-take-le}
-use Rattle.geometry.specs.SearchRange.{OneSided}
-use Rattle.geometry.proofs.SearchRangeLaws.{box-one-sided}
 use borrow.Author.Needs.{needs}
 use Rattle.queries.proofs.list.list.Statement.{statement}
 use Rattle.queries.proofs.list.list.Tie as tie
@@ -18,7 +15,7 @@ capacity-requires c κs = search needs
 returns : tie.Need-returns
 returns c =
     let start = c .before .before .before .before in
-    list-bad (start .args .pool .now) (start .args .bounds) (start .args .list .now) (c .before .capacity .ensures) (c .if1 .taken)
+    list-bad (start .args .pool .now) (start .args .bounds) (start .args .choice) (start .args .list .now) (c .before .capacity .ensures) (c .if1 .taken)
 
 is-reversed-requires : tie.Need-is-reversed-requires
 is-reversed-requires c κs = search needs
@@ -27,18 +24,15 @@ returns-2 : tie.Need-returns-2
 returns-2 c =
     let tested = c .before in
     let a = tested .before .before .before .before .before .args in
-    list-reversed (a .pool .now) (a .bounds) (a .list .now) (tested .before .before .capacity .ensures) (tested .before .if1 .left)
+    list-reversed (a .pool .now) (a .bounds) (a .choice) (a .list .now) (tested .before .before .capacity .ensures) (tested .before .if1 .left)
     (tested .is-reversed .ensures) (c .if2 .taken)
 
-range-of-box-requires : tie.Need-range-of-box-requires
-range-of-box-requires c κs = forward-quarters _ (sym (c .before .is-reversed .ensures) ∙ c .if2 .left)
-
-find-hits-requires : tie.Need-find-hits-requires
-find-hits-requires c κs =
-    let tested = c .before .before .before .before in
+find-taken-requires : tie.Need-find-taken-requires
+find-taken-requires c κs =
+    let forward = c .before in
+    let tested = forward .before in
     let t = pool-taken _ (tested .before .before .capacity .ensures) (tested .before .if1 .left) in
-    let range = c .before .before .range-of-box .ensures in
-    record { sized = t .sized; one-sided = subst OneSided (sym range) (box-one-sided _); room = refl }
+    record { sized = t .sized; some = forward-quarters _ (sym (tested .is-reversed .ensures) ∙ forward .if2 .left); room = refl }
 
 enum-known-found : tie.Need-enum-known-found
 enum-known-found c = search needs
@@ -49,20 +43,20 @@ enum-told c = search needs
 returns-3 : tie.Need-returns-3
 returns-3 c =
     let searched = c .before .before in
-    let ranged = searched .before .before .before in
-    let tested = ranged .before .before in
+    let forward = searched .before .before in
+    let tested = forward .before in
     let a = tested .before .before .before .before .before .args in
-    list-broken (a .pool .now) (a .bounds) (a .list .now) (tested .before .before .capacity .ensures) (tested .before .if1 .left) (tested .is-reversed .ensures)
-    (ranged .before .if2 .left) (ranged .range-of-box .ensures) _ (searched .find-hits .ensures) (c .enum-told .given .1)
+    list-broken (a .pool .now) (a .bounds) (a .choice) (a .list .now) (tested .before .before .capacity .ensures) (tested .before .if1 .left)
+    (tested .is-reversed .ensures) (forward .if2 .left) _ (searched .find-taken .ensures) (c .enum-told .given .1)
 
 returns-4 : tie.Need-returns-4
 returns-4 c =
     let searched = c .before .before .before .before in
-    let ranged = searched .before .before .before in
-    let tested = ranged .before .before in
+    let forward = searched .before .before in
+    let tested = forward .before in
     let a = tested .before .before .before .before .before .args in
-    list-short (a .pool .now) (a .bounds) (a .list .now) (tested .before .before .capacity .ensures) (tested .before .if1 .left) (tested .is-reversed .ensures)
-    (ranged .before .if2 .left) (ranged .range-of-box .ensures) _ (searched .find-hits .ensures) (c .before .before .found .given .1) (c .if3 .taken)
+    list-short (a .pool .now) (a .bounds) (a .choice) (a .list .now) (tested .before .before .capacity .ensures) (tested .before .if1 .left)
+    (tested .is-reversed .ensures) (forward .if2 .left) _ (searched .find-taken .ensures) (c .before .before .found .given .1) (c .if3 .taken)
 
 slice-relend-prefix-write-numbers : tie.Need-slice-relend-prefix-write-numbers
 slice-relend-prefix-write-numbers c = search needs
@@ -73,7 +67,7 @@ slice-aggregate-write-numbers c = sym (length-take-le _ _ (c .before .before .if
 write-numbers-requires : tie.Need-write-numbers-requires
 write-numbers-requires c κs =
     let found = c .before .before .before .before in
-    let cells = found-hits _ inRange refl _ (found .before .before .find-hits .ensures) (found .found .given .1) .cells in
+    let cells = found-cells _ _ _ _ (found .before .before .find-taken .ensures) (found .found .given .1) in
     cells-part cells _ (c .before .before .if3 .left)
 
 same-length : tie.Need-same-length
@@ -83,11 +77,11 @@ returns-5 : tie.Need-returns-5
 returns-5 c =
     let room = c .before .before .before .before .before in
     let searched = room .before .before .before .before in
-    let ranged = searched .before .before .before in
-    let tested = ranged .before .before in
+    let forward = searched .before .before in
+    let tested = forward .before in
     let a = tested .before .before .before .before .before .args in
-    list-done (a .pool .now) (a .bounds) (a .list .now) (tested .before .before .capacity .ensures) (tested .before .if1 .left) (tested .is-reversed .ensures)
-    (ranged .before .if2 .left) (ranged .range-of-box .ensures) _ (searched .find-hits .ensures) (room .before .before .found .given .1)
+    list-done (a .pool .now) (a .bounds) (a .choice) (a .list .now) (tested .before .before .capacity .ensures) (tested .before .if1 .left)
+    (tested .is-reversed .ensures) (forward .if2 .left) _ (searched .find-taken .ensures) (room .before .before .found .given .1)
     (room .if3 .left) (c .before .before .write-numbers .ensures)
 
 pub list-spec : {M : Type 1} → statement M
@@ -98,8 +92,7 @@ list-spec =
     returns
     is-reversed-requires
     returns-2
-    range-of-box-requires
-    find-hits-requires
+    find-taken-requires
     enum-known-found
     enum-told
     returns-3

@@ -1,10 +1,8 @@
 -- `asking::question_of` meets its contract: a line with a day and time, or without. Assumes nothing.
-use borrow.Author.Tests.{not-true, not-false}
-use native.Mathlib.Omega.{arith}
-use mathlib.Core.Path.{sym, _∙_}
-use lib.Seq.{length-take-le}
-use Rattle.question.proofs.QuestionLaws.{timed-length, is-ending, line-long, line-plain, line-no-base, line-no-quarter, line-timed}
 use borrow.Author.Needs.{needs}
+use borrow.Author.Tests.{not-true, not-false}
+use mathlib.Core.Path.{sym, _∙_}
+use Rattle.question.proofs.QuestionLaws.{timed-length, line-long, line-plain, line-no-base, line-dated}
 use Rattle.question.proofs.asking.question_of.Statement.{statement}
 use Rattle.question.proofs.asking.question_of.Tie as tie
 
@@ -34,59 +32,17 @@ returns-3 c =
     let t = sym (form .before .is-timed .ensures) ∙ not-false _ (form .if2 .left) in
     line-no-base _ (form .before .before .if1 .left) t _ (c .enum-told .given .1)
 
-sub-at : tie.Need-sub-at
-sub-at c =
+dated-question-requires : tie.Need-dated-question-requires
+dated-question-requires c κs =
     let form = c .before .before .before in
-    omega (arith, timed-length _ (sym (form .before .is-timed .ensures) ∙ not-false _ (form .if2 .left)))
-
-sub-quarter-of : tie.Need-sub-quarter-of
-sub-quarter-of c =
-    let form = c .before .before .before in
-    omega (arith, timed-length _ (sym (form .before .is-timed .ensures) ∙ not-false _ (form .if2 .left)))
-
-part-quarter-of-start : tie.Need-part-quarter-of-start
-part-quarter-of-start c = search needs
-
-part-quarter-of-end : tie.Need-part-quarter-of-end
-part-quarter-of-end c = search needs
-
-quarter-of-requires : tie.Need-quarter-of-requires
-quarter-of-requires c κs = search needs
-
-enum-known-quarter : tie.Need-enum-known-quarter
-enum-known-quarter c = search needs
-
-enum-told-2 : tie.Need-enum-told-2
-enum-told-2 c = search needs
+    timed-length _ (sym (form .before .is-timed .ensures) ∙ not-false _ (form .if2 .left))
 
 returns-4 : tie.Need-returns-4
 returns-4 c =
-    let day = c .before .before .before .before in
+    let day = c .before in
     let form = day .before .before .before in
     let t = sym (form .before .is-timed .ensures) ∙ not-false _ (form .if2 .left) in
-    let q = rw (is-ending _ (timed-length _ t)) at (c .before .before .quarter-of .ensures) in
-    line-no-quarter _ (form .before .before .if1 .left) t _ _ (day .before .base .given .1) (sym q ∙ c .enum-told2 .given .1)
-
-sub-gap : tie.Need-sub-gap
-sub-gap c =
-    let form = c .before .before .before .before .before .before .before .before in
-    omega (arith, timed-length _ (sym (form .before .is-timed .ensures) ∙ not-false _ (form .if2 .left)))
-
-slice-aggregate-timed-question : tie.Need-slice-aggregate-timed-question
-slice-aggregate-timed-question c = sym (length-take-le _ _ (omega arith))
-
-timed-question-requires : tie.Need-timed-question-requires
-timed-question-requires c κs = search needs
-
-returns-5 : tie.Need-returns-5
-returns-5 c =
-    let quarter = c .before .before in
-    let day = quarter .before .before .before .before .before in
-    let form = day .before .before .before in
-    let t = sym (form .before .is-timed .ensures) ∙ not-false _ (form .if2 .left) in
-    let q = rw (is-ending _ (timed-length _ t)) at (quarter .before .before .before .quarter-of .ensures) in
-    c .timed-question .ensures
-    ∙ line-timed _ (form .before .before .if1 .left) t _ _ (day .before .base .given .1) _ (sym q ∙ quarter .before .quarter .given .1)
+    c .dated-question .ensures ∙ line-dated _ (form .before .before .if1 .left) t _ _ (day .before .base .given .1)
 
 pub question-of-spec : {M : Type 1} → statement M
 question-of-spec =
@@ -99,15 +55,5 @@ question-of-spec =
     enum-known-base
     enum-told
     returns-3
-    sub-at
-    sub-quarter-of
-    part-quarter-of-start
-    part-quarter-of-end
-    quarter-of-requires
-    enum-known-quarter
-    enum-told-2
-    returns-4
-    sub-gap
-    slice-aggregate-timed-question
-    timed-question-requires
-    returns-5)
+    dated-question-requires
+    returns-4)

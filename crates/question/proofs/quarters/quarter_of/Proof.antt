@@ -13,7 +13,7 @@ is-date-requires : tie.Need-is-date-requires
 is-date-requires c κs = search needs
 
 returns : tie.Need-returns
-returns c = quarter-no-base _ _ (sym (c .before .is-date .ensures) ∙ not-true _ (c .if1 .taken))
+returns c = quarter-no-base _ _ _ (sym (c .before .is-date .ensures) ∙ not-true _ (c .if1 .taken))
 
 moment-form-requires : tie.Need-moment-form-requires
 moment-form-requires c κs = search needs
@@ -21,7 +21,7 @@ moment-form-requires c κs = search needs
 returns-2 : tie.Need-returns-2
 returns-2 c =
     let b = sym (c .before .before .before .is-date .ensures) ∙ not-false _ (c .before .before .if1 .left) in
-    quarter-no-form _ _ b (sym (c .before .moment-form .ensures) ∙ not-true _ (c .if2 .taken))
+    quarter-no-form _ _ _ b (sym (c .before .moment-form .ensures) ∙ not-true _ (c .if2 .taken))
 
 sub-day-of-text : tie.Need-sub-day-of-text
 sub-day-of-text c = search needs
@@ -48,7 +48,7 @@ returns-3 c =
     let form = c .before .before .before .before in
     let b = sym (form .before .before .before .is-date .ensures) ∙ not-false _ (form .before .before .if1 .left) in
     let f = sym (form .before .moment-form .ensures) ∙ not-false _ (form .if2 .left) in
-    quarter-no-day _ _ b f (sym (c .before .before .day-of-text .ensures) ∙ c .enum-told .given .1)
+    quarter-no-day _ _ _ b f (sym (c .before .before .day-of-text .ensures) ∙ c .enum-told .given .1)
 
 sub-number-of : tie.Need-sub-number-of
 sub-number-of c = search needs
@@ -78,7 +78,7 @@ returns-4 c =
     let b = sym (form .before .before .before .is-date .ensures) ∙ not-false _ (form .before .before .if1 .left) in
     let f = sym (form .before .moment-form .ensures) ∙ not-false _ (form .if2 .left) in
     let d = sym (day .before .before .before .day-of-text .ensures) ∙ day .before .day .given .1 in
-    quarter-no-hour _ _ b f _ d (sym (c .before .before .number-of .ensures) ∙ c .enum-told2 .given .1)
+    quarter-no-hour _ _ _ b f _ d (sym (c .before .before .number-of .ensures) ∙ c .enum-told2 .given .1)
 
 sub-number-of-2 : tie.Need-sub-number-of-2
 sub-number-of-2 c = search needs
@@ -110,7 +110,7 @@ returns-5 c =
     let f = sym (form .before .moment-form .ensures) ∙ not-false _ (form .if2 .left) in
     let d = sym (day .before .before .before .day-of-text .ensures) ∙ day .before .day .given .1 in
     let h = sym (hour .before .before .before .number-of .ensures) ∙ hour .before .hour .given .1 in
-    quarter-no-minute _ _ b f _ d _ h (sym (c .before .before .number-of2 .ensures) ∙ c .enum-told3 .given .1)
+    quarter-no-minute _ _ _ b f _ d _ h (sym (c .before .before .number-of2 .ensures) ∙ c .enum-told3 .given .1)
 
 time-of-requires : tie.Need-time-of-requires
 time-of-requires c κs =
@@ -129,7 +129,7 @@ returns-6 c =
     let d = sym (day .before .before .before .day-of-text .ensures) ∙ day .before .day .given .1 in
     let h = sym (hour .before .before .before .number-of .ensures) ∙ hour .before .hour .given .1 in
     let m = sym (minute .before .before .before .number-of2 .ensures) ∙ minute .before .minute .given .1 in
-    c .time-of .ensures ∙ quarter-read _ _ b f _ d _ h _ m
+    c .time-of .ensures ∙ quarter-read _ _ _ b f _ d _ h _ m
 
 pub quarter-of-spec : {M : Type 1} → statement M
 quarter-of-spec =

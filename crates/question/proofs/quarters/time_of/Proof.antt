@@ -6,10 +6,10 @@ use Rattle.question.proofs.quarters.time_of.Statement.{statement}
 use Rattle.question.proofs.quarters.time_of.Tie as tie
 
 returns : tie.Need-returns
-returns c = hour-high _ _ _ _ (c .if1 .taken)
+returns c = hour-high _ _ _ _ _ (c .if1 .taken)
 
 returns-2 : tie.Need-returns-2
-returns-2 c = minute-high _ _ _ _ (c .if2 .taken)
+returns-2 c = minute-high _ _ _ _ _ (c .if2 .taken)
 
 days-since-requires : tie.Need-days-since-requires
 days-since-requires c κs = search needs
@@ -20,7 +20,7 @@ quarter-at-requires c κs = search needs
 returns-3 : tie.Need-returns-3
 returns-3 c =
     let time = c .before .before in
-    c .quarter-at .ensures ∙ time-taken _ _ _ _ _ (time .before .if1 .left) (time .if2 .left) (c .before .days-since .ensures .0)
+    c .quarter-at .ensures ∙ time-taken _ _ _ _ _ _ (time .before .if1 .left) (time .if2 .left) (c .before .days-since .ensures .0)
 
 pub time-of-spec : {M : Type 1} → statement M
 time-of-spec =

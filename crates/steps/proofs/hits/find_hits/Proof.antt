@@ -13,8 +13,8 @@ returns c =
     let at = c .before .before .before .before .before in
     hits-broken (at .args .pool .now) _ (at .args .range .now) _ (at .pre .sized) (c .before .search .ensures) (not-true _ (c .if1 .taken))
 
-array-read-t12 : tie.Need-array-read-t12
-array-read-t12 c = search needs
+array-read-t13 : tie.Need-array-read-t13
+array-read-t13 c = search needs
 
 returns-2 : tie.Need-returns-2
 returns-2 c =
@@ -22,4 +22,4 @@ returns-2 c =
     hits-found (at .args .pool .now) _ (at .args .range .now) _ (at .pre .sized) (c .before .search .ensures) (not-false _ (c .if1 .left))
 
 pub find-hits-spec : {M : Type 1} → statement M
-find-hits-spec = tie.close (tie.spec search-requires returns array-read-t12 returns-2)
+find-hits-spec = tie.close (tie.spec search-requires returns array-read-t13 returns-2)

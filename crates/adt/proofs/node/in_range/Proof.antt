@@ -1,4 +1,4 @@
--- `node::is_hit` meets its contract, comparison by comparison. Assumes nothing.
+-- `node::in_range` meets its contract, comparison by comparison. Assumes nothing.
 use lib.Dec.{lit<}
 use native.Mathlib.Omega.{arith}
 use mathlib.Core.Path.{refl, sym, _∙_}
@@ -8,8 +8,8 @@ use Rattle.pool.specs.Cell.{grantAt}
 use Rattle.adt.specs.Node.{pointAt}
 use Rattle.adt.proofs.HitTest.{beyond, short}
 use borrow.Author.Needs.{needs}
-use Rattle.adt.proofs.node.is_hit.Statement.{statement}
-use Rattle.adt.proofs.node.is_hit.Tie as tie
+use Rattle.adt.proofs.node.in_range.Statement.{statement}
+use Rattle.adt.proofs.node.in_range.Tie as tie
 
 field-requires : tie.Need-field-requires
 field-requires c κs = search needs
@@ -163,8 +163,8 @@ returns-9 c =
     (omega (arith, c .if8 .left, quarter .wide5 .ensures .0, quarter .before .field7 .ensures, c .before .wide6 .ensures .0))
     (omega (arith, quarter .wide5 .ensures, quarter .before .field7 .ensures)))
 
-pub is-hit-spec : {M : Type 1} → statement M
-is-hit-spec =
+pub in-range-spec : {M : Type 1} → statement M
+in-range-spec =
     tie.close
     (tie.spec
     field-requires
