@@ -1,5 +1,5 @@
 """The panel against the plain book: ask.py PROGRAM SEED. Random grants are cut to a file, and random questions asked of it, with a base day and
-without. Which grants hold a whole box is asked here of each grant's values, one by one."""
+without. Which grants hold a whole shift is asked here of a grant's staff numbers, doors and quarters, as ranges of numbers."""
 import datetime
 import itertools
 import pathlib
@@ -19,7 +19,7 @@ QUARTERS = [*range(11), 65533, 65534, 65535]
 
 program, seed = str(pathlib.Path(sys.argv[1]).resolve()), int(sys.argv[2])
 pick = random.Random(seed)
-# The kinds of `covers` that have been asked, and those that must be.
+# The kinds of `covers` that have been asked, of a door of the bank where they say nothing of it, and those that must be.
 reached = set()
 KINDS = {"held", "not held", "a grant's own quarters", "from one earlier", "to one later", "one quarter", "empty", "reversed", "foreign door"}
 KINDS |= {"day and time", "from within a quarter", "to within a quarter"}
@@ -108,11 +108,25 @@ def foreign(book, door):
     yield f"doors {DOORS[0]} to {DOORS[1]}, {grants}, {len(file_of(DOORS, book))} bytes"
 
 
+def ours(door):
+    return DOORS[0] <= door <= DOORS[1]
+
+
+def reach(door, kind):
+    """A kind of question whose answer is more than that the door isn't the bank's."""
+    if ours(door):
+        reached.add(kind)
+
+
+def has_place(g, staff, door):
+    return staff in range(g.staff[0], g.staff[1] + 1) and door in range(g.doors[0], g.doors[1] + 1)
+
+
 def holding(book, staff, door, start, end):
     """The grants that have the staff number, the door, and both the first and the last of the quarters."""
     def has(g):
         quarters = range(*g.quarters)
-        return staff in range(g.staff[0], g.staff[1] + 1) and door in range(g.doors[0], g.doors[1] + 1) and start in quarters and end - 1 in quarters
+        return has_place(g, staff, door) and start in quarters and end - 1 in quarters
 
     return [g for g in book.live if has(g)]
 
@@ -128,11 +142,18 @@ def held_rows(rows):
             yield ""
         yield row([g.number, g.rank, *g.staff, *g.doors, *g.quarters], ("bars", "opens")[g.kind])
     yield f"{len(rows)} in all"
-    yield "a higher grant may decide otherwise for some of it, so ask may"
+    yield "a higher grant may decide otherwise for some or all of it; may tells, a quarter at a time"
+
+
+def beside(book, staff, door, start, end):
+    """How the quarters lie to those of the grants that have the staff number and the door."""
+    names = {(0, 0): "a grant's own quarters", (-1, 0): "from one earlier", (0, 1): "to one later"}
+    off = [(start - g.quarters[0], end - g.quarters[1]) for g in book.live if has_place(g, staff, door)]
+    return {names[o] for o in off if o in names}
 
 
 def covers(book, staff, door, start, end, base):
-    if not DOORS[0] <= door <= DOORS[1]:
+    if not ours(door):
         reached.add("foreign door")
         yield from foreign(book, door)
     else:
@@ -140,6 +161,7 @@ def covers(book, staff, door, start, end, base):
         if start < end:
             rows = holding(book, staff, door, start, end)
             reached.add("held" if rows else "not held")
+            reached.update(beside(book, staff, door, start, end))
             yield from held_rows(rows)
         else:
             yield from refusal()
@@ -153,14 +175,7 @@ def near(quarter):
 
 def shift_of(g):
     """A grant's own values, or nearly: which staff number and door, and quarters from and to."""
-    start, end = near(g.quarters[0]), near(g.quarters[1])
-    if (start, end) == g.quarters:
-        reached.add("a grant's own quarters")
-    if start < g.quarters[0]:
-        reached.add("from one earlier")
-    if end > g.quarters[1]:
-        reached.add("to one later")
-    return pick.choice(g.staff), pick.choice(g.doors), start, end
+    return pick.choice(g.staff), pick.choice(g.doors), near(g.quarters[0]), near(g.quarters[1])
 
 
 def any_shift(book):
@@ -169,14 +184,14 @@ def any_shift(book):
     return pick.randrange(14), pick.randrange(10), pick.choice(QUARTERS), pick.choice(QUARTERS)
 
 
-def typed_moments(start, end):
+def typed_moments(door, start, end):
     """A day and time in the first quarter, and one in the last quarter or at its end."""
     after, before = pick.choice([0, 0, 1, 14]), pick.choice([0, 0, 1, 14]) if end else 0
-    reached.add("day and time")
+    reach(door, "day and time")
     if after:
-        reached.add("from within a quarter")
+        reach(door, "from within a quarter")
     if before:
-        reached.add("to within a quarter")
+        reach(door, "to within a quarter")
     first, last = (BASE + datetime.timedelta(minutes=m) for m in (15 * start + after, 15 * end - before))
     return f"{first:%Y-%m-%d %H:%M} {last:%Y-%m-%d %H:%M}"
 
@@ -184,10 +199,10 @@ def typed_moments(start, end):
 def covers_line(staff, door, start, end, base):
     """The line that asks it, in numbers or as days and times."""
     if end <= start:
-        reached.add("empty" if end == start else "reversed")
+        reach(door, "empty" if end == start else "reversed")
     if end == start + 1:
-        reached.add("one quarter")
-    quarters = typed_moments(start, end) if base and pick.random() < 0.5 else f"{start} {end}"
+        reach(door, "one quarter")
+    quarters = typed_moments(door, start, end) if base and pick.random() < 0.5 else f"{start} {end}"
     return f"covers {staff} {door} {quarters}"
 
 

@@ -1,6 +1,6 @@
 -- What a search takes as a hit among the cells that it meets.
---   passes p q g      the grant g passes: its point lies in the search range q (document 01, "The walks of a call": the number, the doors,
---                     everything), or list's choice takes it for a box (document 02, card 4; model/specs/Relation)
+--   testOf p q g      the test that a search makes of the grant g: its point lies in the search range q (document 01, "The walks of a call":
+--                     the number, the doors, everything), or list's choice takes it for a box (document 02, card 4; model/specs/Relation)
 --   predicateIn ws    the predicate that seven numbers stand for, as the walk hands it on from cell to cell: 0 for the range, 1 for touching, 2 for
 --                     holding; then the box's six values
 -- Assumes nothing: these are definitions.
@@ -15,13 +15,13 @@ use Rattle.model.specs.declared.Choice.{Choice}
 use Rattle.model.specs.declared.Choice.the-variants.{Touching, Holding}
 use Rattle.model.specs.Relation.{taken}
 use Rattle.geometry.specs.Region.{Region}
+use Rattle.geometry.specs.Point.{inRange}
 use Rattle.adt.specs.declared.predicates.Predicate.{Predicate}
 use Rattle.adt.specs.declared.predicates.Predicate.the-variants.{InRange, Taken}
-use Rattle.adt.specs.Search.{inRange}
 
-abbrev pub passes : Predicate → Region → Grant → Bool
-passes InRange q g = inRange q g
-passes (Taken bounds choice) q g = taken choice bounds g
+abbrev pub testOf : Predicate → Region → Grant → Bool
+testOf InRange q g = inRange q g
+testOf (Taken bounds choice) q g = taken choice bounds g
 
 abbrev pub choiceIn : ℕ → Choice
 choiceIn n = cond (eqb n 1) Touching Holding

@@ -6,7 +6,6 @@
 --   enter n at g    the link at the place `at` is gone through, if it leads to a cell and that cell's region g meets the range;
 --                   n is the number of levels below the parent, so the root is entered with one more than there are levels
 --   searchBy w q passes   the whole walk, from the root: it goes by the range q, and its hits are the cells met whose grants pass the test
---   inRange q g           the grant's point lies in the range
 --   search w q            the walk whose hits are the cells in its range
 -- Assumes nothing: these are definitions.
 use Prim.Native.Nat.{ℕ, zero, suc, _-_}
@@ -19,7 +18,7 @@ use Rattle.geometry.specs.declared.Side.the-variants.{Left, Right}
 use Rattle.geometry.specs.Axis.{axisOf}
 use Rattle.geometry.specs.Levels.{levels}
 use Rattle.geometry.specs.Region.{Region, rootRegion, half, meets}
-use Rattle.geometry.specs.Point.{pointOf, inside}
+use Rattle.geometry.specs.Point.{inRange}
 use Rattle.pool.specs.Layout.{rootPlace}
 use Rattle.pool.specs.Capacity.{capacityOf}
 use Rattle.pool.specs.Cell.{grantAt}
@@ -75,9 +74,6 @@ module _ (w : List ℕ) (c : ℕ) (q : Region) (passes : Grant → Bool) where
 
 unfoldable pub searchBy : List ℕ → Region → (Grant → Bool) → Search
 searchBy w q passes = enter w (capacityOf w) q passes (suc levels) rootPlace rootRegion (going 0 [] nowhere)
-
-abbrev pub inRange : Region → Grant → Bool
-inRange q g = inside q (pointOf g)
 
 abbrev pub search : List ℕ → Region → Search
 search w q = searchBy w q (inRange q)

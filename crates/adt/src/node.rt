@@ -2,12 +2,11 @@
 ghost use mathlib.Core.Path.{_≡_};
 ghost use Prim.Native.Nat.{_<_, _≤_};
 ghost use Rattle.model.specs.Limits.{maxGrants};
-ghost use Rattle.geometry.specs.Point.{pointOf};
+ghost use Rattle.geometry.specs.Point.{pointOf, inRange};
 ghost use Rattle.geometry.specs.SearchRange.{OneSided};
 ghost use Rattle.pool.specs.Capacity.{poolLength, InPool};
 ghost use Rattle.pool.specs.Cell.{grantAt};
 ghost use Rattle.adt.specs.Node.{linkPlace};
-ghost use Rattle.adt.specs.Search.{inRange};
 use geometry::Side;
 use geometry::axis::DOOR_FROM;
 use geometry::axis::DOOR_TO;

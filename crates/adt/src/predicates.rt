@@ -4,7 +4,7 @@ ghost use Rattle.model.specs.Relation.{taken};
 ghost use Rattle.geometry.specs.SearchRange.{OneSided};
 ghost use Rattle.pool.specs.Capacity.{InPool};
 ghost use Rattle.pool.specs.Cell.{grantAt};
-ghost use Rattle.adt.specs.Predicate.{passes, choiceIn, boxIn, predicateIn};
+ghost use Rattle.adt.specs.Predicate.{testOf, choiceIn, boxIn, predicateIn};
 use crate::node::in_range;
 use geometry::region::Region;
 use model::Box;
@@ -82,7 +82,7 @@ fn is_taken(pool: &[u16], cell: usize, predicate: &PredicateWords, choice: Choic
 // Whether a cell that is met is a hit. The choice is tested first, so that what only holding looks at is left out for touching.
 pub fn is_hit(pool: &[u16], cell: usize, range: &Region, predicate: &PredicateWords) -> bool
     requires { ⌜ InPool (now pool) cell × OneSided (now range) ⌝ }
-    ensures { λ r. ⌜ r ≡ passes (predicateIn (now (predicate .entry))) (now (range .entry)) (grantAt (now (pool .entry)) cell) ⌝ }
+    ensures { λ r. ⌜ r ≡ testOf (predicateIn (now (predicate .entry))) (now (range .entry)) (grantAt (now (pool .entry)) cell) ⌝ }
 {
     if predicate[0] == IN_RANGE {
         return in_range(pool, cell, range);

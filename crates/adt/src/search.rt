@@ -2,7 +2,7 @@
 // the range and visits its cell. The levels remaining fall. A search that meets a cause of fault 9 answers false at once.
 ghost use Rattle.geometry.specs.SearchRange.{OneSided};
 ghost use Rattle.adt.specs.Search.{searchBy};
-ghost use Rattle.adt.specs.Predicate.{passes, predicateIn};
+ghost use Rattle.adt.specs.Predicate.{testOf, predicateIn};
 ghost use Rattle.adt.specs.SearchMemory.{Fresh, Encodes, Testing, Visiting, Entering, tested, visited, entered};
 use crate::node::link_place;
 use crate::predicates::Predicate;
@@ -50,7 +50,7 @@ fn test(
 ) -> bool
     requires { ⌜ Testing (now pool) cells (now range) (now hits) (now counters) k ⌝ }
     ensures { λ r. ⌜ Encodes cells r (now (hits .exit)) (now (counters .exit))
-        (tested (now (pool .entry)) cells (now (range .entry)) (passes (predicateIn (now (predicate .entry))) (now (range .entry)))
+        (tested (now (pool .entry)) cells (now (range .entry)) (testOf (predicateIn (now (predicate .entry))) (now (range .entry)))
         (now (hits .entry)) (now (counters .entry)) k level link) ⌝ }
 {
     let met = counters[MET];
@@ -88,7 +88,7 @@ fn visit(
 ) -> bool
     requires { ⌜ Visiting (now pool) cells (now range) (now hits) (now counters) k below region ⌝ }
     ensures { λ r. ⌜ Encodes cells r (now (hits .exit)) (now (counters .exit))
-        (visited (now (pool .entry)) cells (now (range .entry)) (passes (predicateIn (now (predicate .entry))) (now (range .entry)))
+        (visited (now (pool .entry)) cells (now (range .entry)) (testOf (predicateIn (now (predicate .entry))) (now (range .entry)))
         (now (hits .entry)) (now (counters .entry)) k below link region) ⌝ }
 {
     let level = LEVELS - below;
@@ -156,7 +156,7 @@ fn enter(
 ) -> bool
     requires { ⌜ Entering (now pool) cells (now range) (now hits) (now counters) below link region ⌝ }
     ensures { λ r. ⌜ Encodes cells r (now (hits .exit)) (now (counters .exit))
-        (entered (now (pool .entry)) cells (now (range .entry)) (passes (predicateIn (now (predicate .entry))) (now (range .entry)))
+        (entered (now (pool .entry)) cells (now (range .entry)) (testOf (predicateIn (now (predicate .entry))) (now (range .entry)))
         (now (hits .entry)) (now (counters .entry)) below link side region) ⌝ }
 {
     if below == 0 {
@@ -199,7 +199,7 @@ pub fn search(
 ) -> bool
     requires { ⌜ Fresh (now pool) cells (now hits) (now counters) × OneSided (now range) ⌝ }
     ensures { λ r. ⌜ Encodes cells r (now (hits .exit)) (now (counters .exit))
-        (searchBy (now (pool .entry)) (now (range .entry)) (passes predicate (now (range .entry)))) ⌝ }
+        (searchBy (now (pool .entry)) (now (range .entry)) (testOf predicate (now (range .entry)))) ⌝ }
 {
     if pool[ROOT] == 0 {
         return true;

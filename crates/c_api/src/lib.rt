@@ -104,7 +104,7 @@ pub extern "C" fn lg_list(
     pack_listed(queries::list::list(pool, bounds, Choice::Touching, list))
 }
 
-// Lists those that hold the box, and is lg_list else.
+// Lists the grants that hold the box. Refuses 1, 2, 9 and 8, in this order. Elements past the numbers stay.
 #[no_mangle]
 pub extern "C" fn lg_list_holding(
     pool: &[u16],

@@ -22,8 +22,9 @@ use Rattle.model.specs.Call.{Request}
 use Rattle.geometry.specs.Levels.{levels}
 use Rattle.geometry.specs.Region.{Region}
 use Rattle.geometry.specs.SearchRange.{rangeOfBox, rangeOfNumber}
+use Rattle.geometry.specs.Point.{inRange}
 use Rattle.pool.specs.Capacity.{capacityOf}
-use Rattle.adt.specs.Search.{Spot, Search, broken, going, searchBy, inRange, search}
+use Rattle.adt.specs.Search.{Spot, Search, broken, going, searchBy, search}
 use Rattle.adt.specs.Insert.{InsertionWalk}
 use Rattle.adt.specs.Insert as insert
 use Rattle.adt.specs.Remove.{RemovalWalk, terminalFrom}

@@ -34,10 +34,11 @@ use Rattle.model.specs.Arguments.{requestCauses}
 use Rattle.model.specs.Values.{GrantFits}
 use Rattle.model.specs.Book.{Book}
 use Rattle.geometry.specs.Region.{Region}
+use Rattle.geometry.specs.Point.{inRange}
 use Rattle.pool.specs.Capacity.{capacityOf, wrongPool}
 use Rattle.pool.specs.Cell.{grantAt}
 use Rattle.pool.proofs.CapacityLaws.{wrongPool-iff}
-use Rattle.adt.specs.Search.{Search, searchBy, inRange, search}
+use Rattle.adt.specs.Search.{Search, searchBy, search}
 use Rattle.adt.specs.Reach.{Carries}
 use Rattle.adt.proofs.Spells.{Tree, cellsOf}
 use Rattle.adt.proofs.TreeLaws.{cells-size}

@@ -26,10 +26,11 @@ use Rattle.model.proofs.Simulation.{Agrees, refusing-agrees}
 use Rattle.geometry.specs.Levels.{levels}
 use Rattle.geometry.specs.Region.{Region}
 use Rattle.geometry.specs.SearchRange.{rangeOfNumber}
+use Rattle.geometry.specs.Point.{inRange}
 use Rattle.geometry.proofs.SearchRangeLaws.{number-hits}
 use Rattle.pool.specs.Layout.{rootPlace}
 use Rattle.pool.specs.Cell.{grantAt}
-use Rattle.adt.specs.Search.{Spot, Search, inRange}
+use Rattle.adt.specs.Search.{Spot, Search}
 use Rattle.adt.specs.Remove.{terminal, removed}
 use Rattle.adt.proofs.Spells.{Tree, cellsOf}
 use Rattle.adt.proofs.PartLaws.{HangsAt}

@@ -21,10 +21,9 @@ use Rattle.model.specs.Box.{pointBox}
 use Rattle.model.specs.Relation.{taken}
 use Rattle.model.specs.Call.{Request, requested}
 use Rattle.geometry.specs.Region.{Region}
-use Rattle.geometry.specs.Point.{pointOf}
+use Rattle.geometry.specs.Point.{pointOf, inRange}
 use Rattle.geometry.specs.SearchRange.{rangeOfBox, rangeOfNumber}
 use Rattle.pool.specs.Capacity.{capacityOf}
-use Rattle.adt.specs.Search.{inRange}
 use Rattle.adt.specs.Links.{Link, brokenBy, searchLinks, insertionLinks, removalLinks, freeLinks, isHit, hitsAmong}
 use Rattle.calls.specs.Causes.{numberLive}
 

@@ -7,13 +7,12 @@
 use Prim.Native.Nat.{ℕ, _<_}
 use mathlib.Core.Logic.{_↔_}
 use mathlib.Core.Path.{_≡_, refl, sym, subst, _∙_}
-use mathlib.Core.Bool.{Bool, true, false, cond, _||_, true≢false}
+use mathlib.Core.Bool.{Bool, true, false, cond, true≢false}
 use mathlib.Core.List.{List, [], List·Memᴰ}
 use mathlib.Core.Option.{none, some}
 use native.Mathlib.Omega.{arith}
 use lib.Dec.{T, leb}
-use borrow.Author.Tests.{leb-true, leb-false, lt-leb, ltb-false, le-ltb}
-use Rattle.lists.proofs.OrLaws.{or-false-iff}
+use borrow.Author.Tests.{leb-true, leb-false, lt-leb, le-ltb}
 use Rattle.lists.proofs.ListLaws.{sameNumbers-true}
 use Rattle.model.specs.declared.Box.{Box}
 use Rattle.model.specs.declared.Grant.{Grant}
@@ -32,7 +31,7 @@ use Rattle.model.specs.Call.{requestOf}
 use Rattle.model.specs.Values.{byteValues, Below}
 use Rattle.model.proofs.ArgumentLaws.{request-forward}
 use Rattle.model.proofs.OverlapLaws.{held-iff}
-use Rattle.model.proofs.QuarterLaws.{covers-iff, forward-quarters}
+use Rattle.model.proofs.QuarterLaws.{covers-iff, forward-box, forward-quarters}
 use Rattle.pool.specs.Capacity.{wrongPool}
 use Rattle.grants_file.specs.File.{grantsIn}
 use Rattle.grants_file.specs.FileSets.{Accepted}
@@ -69,10 +68,7 @@ overlap-covered a b some-a some-b = (
         let begun = leb-false (a .from) (b .from) e in
         (a .from, covers-iff a (a .from) .1 (omega arith, some-quarters a some-a), covers-iff b (a .from) .1 (omega arith, o .starts))
 
--- a closed range that isn't reversed holds its from, and a reversed one holds nothing
-holds-from : (i : Interval) → reversed i ≡ false → T (holds i (i .from))
-holds-from i e = held-iff i (i .from) .1 (omega arith, ltb-false (i .to) (i .from) e)
-
+-- a closed range that holds something isn't reversed
 held-forward : (i : Interval) (x : ℕ) → T (holds i x) → reversed i ≡ false
 held-forward i x h =
     let both = held-iff i x .0 h in
@@ -98,12 +94,11 @@ refused-pointless b = (
     go : (t : Bool) → reversedBox b ≡ t → ((staff door quarter : ℕ) → LiesIn b staff door quarter → ⊥) → t ≡ true
     go true e pointless = refl
     go false e pointless =
-        let last = or-false-iff (reversed (staffOf b) || reversed (doorsOf b)) (noQuarters (quartersOf b)) .0 e in
-        let both = or-false-iff (reversed (staffOf b)) (reversed (doorsOf b)) .0 (last .0) in
+        let f = forward-box b e in
         absurd (pointless (b .«staff_from») (b .«door_from») (b .«quarter_from») (record {
-          staff-held = holds-from (staffOf b) (both .0);
-          door-held = holds-from (doorsOf b) (both .1);
-          covered = covers-iff (quartersOf b) (b .«quarter_from») .1 (omega arith, some-quarters (quartersOf b) (last .1));
+          staff-held = held-iff (staffOf b) (b .«staff_from») .1 (omega arith, f .staff);
+          door-held = held-iff (doorsOf b) (b .«door_from») .1 (omega arith, f .doors);
+          covered = covers-iff (quartersOf b) (b .«quarter_from») .1 (omega arith, f .quarters);
         }))
 
 -- a closed range overlaps a single number exactly if it holds it

@@ -1,7 +1,7 @@
 -- What it means that a grant holds a box (specs/HoldingGrants).
 --   points-held        every point of the box lies in the grant
---   walks-alike        9 is met under both choices or neither
---   hits-narrow        the hits under holding are those under touching that hold the box
+--   nine-alike         9 is met under either choice exactly where the box's walk meets it
+--   hits-taken         the hits are the cells met that the choice takes
 --   holding-grants     the claim
 -- Assumes nothing.
 use Prim.Native.Nat.{ℕ, _-_}
@@ -14,13 +14,13 @@ use Rattle.lists.specs.Tests.{filter}
 use Rattle.lists.proofs.TestLaws.{filter-map, filter-filter}
 use Rattle.model.specs.declared.Box.{Box}
 use Rattle.model.specs.declared.Relation.the-variants.{Holds}
-use Rattle.model.specs.declared.Choice.the-variants.{Touching, Holding}
+use Rattle.model.specs.declared.Choice.{Choice}
 use Rattle.model.specs.Box.{staffOf, doorsOf, quartersOf}
 use Rattle.model.specs.Relation.{HoldsBox, relationOf, taken}
 use Rattle.model.specs.Arguments.{reversedBox}
 use Rattle.model.proofs.OverlapLaws.{held-iff}
-use Rattle.model.proofs.QuarterLaws.{covers-iff}
-use Rattle.model.proofs.RelationLaws.{forward-box, holds-overlaps, apart-iff, touches-iff, holds-iff, taken-overlaps, taken-touching}
+use Rattle.model.proofs.QuarterLaws.{covers-iff, forward-box}
+use Rattle.model.proofs.RelationLaws.{holds-overlaps, apart-iff, touches-iff, holds-iff}
 use Rattle.geometry.specs.SearchRange.{rangeOfBox}
 use Rattle.pool.specs.Cell.{grantAt}
 use Rattle.adt.specs.Search.{Search, broken, going}
@@ -29,7 +29,7 @@ use Rattle.calls.specs.Walks.{boxSearch, isBroken, hitsOf}
 use Rattle.calls.specs.LinkCauses.{hitsBy}
 use Rattle.calls.proofs.LinkCauseLaws.{isBroken-links, hitsOf-links}
 use Rattle.claims.specs.HalfOpenQuarters.{LiesIn}
-use Rattle.claims.specs.HoldingGrants.{HoldingGrants}
+use Rattle.claims.specs.HoldingGrants.{boxWalk, HoldingGrants}
 
 module _ (a b : Box) where
   -- a point of a box that is held lies in the box that holds it
@@ -79,34 +79,30 @@ no-hits : (s : Search) → isBroken s ≡ true → hitsOf s ≡ []
 no-hits broken e = refl
 no-hits (going met hits first) e = absurd (true≢false (sym e))
 
-module _ (w : List ℕ) (q : Box) where
-  pub walks-alike : isBroken (boxSearch w q Holding) ≡ isBroken (boxSearch w q Touching)
-  walks-alike = isBroken-links w (rangeOfBox q) (taken Holding q) ∙ sym (isBroken-links w (rangeOfBox q) (taken Touching q))
+module _ (w : List ℕ) (q : Box) (choice : Choice) where
+  pub nine-alike : isBroken (boxSearch w q choice) ≡ isBroken (boxWalk w q)
+  nine-alike = isBroken-links w (rangeOfBox q) (taken choice q) ∙ sym (isBroken-links w (rangeOfBox q) (λ g. true))
 
-  abbrev holding : ℕ → Bool
-  holding k = taken Holding q (grantAt w k)
+  abbrev takes : ℕ → Bool
+  takes k = taken choice q (grantAt w k)
 
-  -- what is held is touched
-  hits-among : hitsBy w (rangeOfBox q) (taken Holding q) ≡ filter holding (hitsBy w (rangeOfBox q) (taken Touching q))
+  hits-among : hitsBy w (rangeOfBox q) (taken choice q) ≡ filter takes (hitsBy w (rangeOfBox q) (λ g. true))
   unfolding hitsBy hitsAmong
   hits-among =
       let links = searchLinks w (rangeOfBox q) in
-      ap (map (λ (link : Link). link .to))
-      (sym
-      (filter-filter (isHit w (taken Holding q)) (isHit w (taken Touching q)) links
-      (λ link m e. taken-touching q (grantAt w (link .to)) ∙ taken-overlaps Holding q (grantAt w (link .to)) e)))
-      ∙ sym (filter-map holding (λ (link : Link). link .to) (filter (isHit w (taken Touching q)) links))
+      ap (map (λ (link : Link). link .to)) (sym (filter-filter (isHit w (taken choice q)) (isHit w (λ g. true)) links (λ link m e. refl)))
+      ∙ sym (filter-map takes (λ (link : Link). link .to) (filter (isHit w (λ g. true)) links))
 
-  pub hits-narrow : hitsOf (boxSearch w q Holding) ≡ filter holding (hitsOf (boxSearch w q Touching))
+  pub hits-taken : hitsOf (boxSearch w q choice) ≡ filter takes (hitsOf (boxWalk w q))
   unfolding filter
-  hits-narrow = go (isBroken (boxSearch w q Touching)) refl
+  hits-taken = go (isBroken (boxWalk w q)) refl
     where
-      go : (t : Bool) → isBroken (boxSearch w q Touching) ≡ t → hitsOf (boxSearch w q Holding) ≡ filter holding (hitsOf (boxSearch w q Touching))
-      go true e = no-hits (boxSearch w q Holding) (walks-alike ∙ e) ∙ sym (ap (filter holding) (no-hits (boxSearch w q Touching) e))
+      go : (t : Bool) → isBroken (boxWalk w q) ≡ t → hitsOf (boxSearch w q choice) ≡ filter takes (hitsOf (boxWalk w q))
+      go true e = no-hits (boxSearch w q choice) (nine-alike ∙ e) ∙ sym (ap (filter takes) (no-hits (boxWalk w q) e))
       go false e =
-          hitsOf-links w (rangeOfBox q) (taken Holding q) (walks-alike ∙ e)
+          hitsOf-links w (rangeOfBox q) (taken choice q) (nine-alike ∙ e)
           ∙ hits-among
-          ∙ ap (filter holding) (sym (hitsOf-links w (rangeOfBox q) (taken Touching q) e))
+          ∙ ap (filter takes) (sym (hitsOf-links w (rangeOfBox q) (λ g. true) e))
 
 pub holding-grants : HoldingGrants
 holding-grants =
@@ -116,6 +112,7 @@ holding-grants =
       holds = holds-iff;
       overlapping = holds-overlaps;
       points = points-held;
-      walk = walks-alike;
-      hits = hits-narrow;
+      included = λ q g h. h .0;
+      nine = nine-alike;
+      hits = hits-taken;
     }

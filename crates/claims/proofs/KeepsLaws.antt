@@ -1,5 +1,5 @@
 -- On words that stand for a plain book, what KeepsGrants promises of an index with its live grants (specs/KeepsGrants).
---   list-chosen              what an accepted list wrote
+--   list-taken               what an accepted list wrote
 --   decide-foremost          what decide answers
 --   files-written            write gives the file of any doors and the live grants touching them
 --   questions-alike          two pools of which one holds what the other has touching some doors answer alike about those doors, a case a question
@@ -23,7 +23,7 @@ use Rattle.model.specs.declared.Decision.the-variants as decision
 use Rattle.model.specs.Interval.{Interval}
 use Rattle.model.specs.Box.{pointBox}
 use Rattle.model.specs.Overlap.{Overlap, overlaps}
-use Rattle.model.specs.Relation.{Chosen, taken}
+use Rattle.model.specs.Relation.{Taken, taken}
 use Rattle.model.specs.Grant.{touches}
 use Rattle.model.specs.Answer.{decisionAnswer}
 use Rattle.model.specs.Decide.{decisionOf, decideAmong}
@@ -62,8 +62,8 @@ questions-alike h k doors held (revoke n) asks = absurd asks
 questions-alike h k doors held count asks = absurd asks
 
 module _ {w : List ℕ} {b : Book} (h : Represents w b) where
-  pub list-chosen : ListsGrants w (b .live)
-  list-chosen q choice lent n done =
+  pub list-taken : ListsGrants w (b .live)
+  list-taken q choice lent n done =
       let same = list-refines h q choice lent .same in
       let wrote = bookList-writes b q choice lent n (sym (ap (λ (t : Response). t .answer) same) ∙ done) in
       rw (ap (λ (t : Response). take n (t .lent)) same ∙ wrote)
@@ -74,7 +74,7 @@ module _ {w : List ℕ} {b : Book} (h : Represents w b) where
     where
       member : (n : ℕ)
           → List·Memᴰ n (map grantNumber (takenFor q choice (b .live)))
-          ↔ ((g : Grant) × List·Memᴰ g (b .live) × (g .number ≡ n) × Chosen choice (g .bounds) q)
+          ↔ ((g : Grant) × List·Memᴰ g (b .live) × (g .number ≡ n) × Taken choice q g)
       member n = (
         (λ m.
             let o = Memᴰ·of-map grantNumber (takenFor q choice (b .live)) m in
@@ -152,7 +152,7 @@ module _ {w : List ℕ} {b : Book} (h : Represents w b) where
       record {
         holds = represents-holds h;
         answers = λ calls fit. calls-refine wordsStep bookStep Represents CallFits call-refines w b calls fit h .0;
-        lists = list-chosen;
+        lists = list-taken;
         decisions = decide-foremost;
         matches = λ doors gs s. record { equal = match-equal h s; differs = match-differs h s };
         files = files-written;

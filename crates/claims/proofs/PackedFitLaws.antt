@@ -38,12 +38,13 @@ use Rattle.model.proofs.RefusalLaws.{causes-absent, append-absent}
 use Rattle.model.proofs.JudgedLaws.{noneOf-iff}
 use Rattle.geometry.specs.Region.{Region}
 use Rattle.geometry.specs.SearchRange.{rangeOfBox, rangeOfDoors, rangeOfAll}
+use Rattle.geometry.specs.Point.{inRange}
 use Rattle.pool.specs.declared.Field.the-variants.{Number}
 use Rattle.pool.specs.Layout.{fieldOf, place}
 use Rattle.pool.specs.Cell.{grantAt}
 use Rattle.pool.specs.Capacity.{capacityOf, wrongPool}
 use Rattle.pool.proofs.CapacityLaws.{capacityOf-poolLength, wrongPool-iff}
-use Rattle.adt.specs.Search.{searchBy, inRange}
+use Rattle.adt.specs.Search.{searchBy}
 use Rattle.grants_file.specs.Layout.{maxBlocks}
 use Rattle.grants_file.specs.Record.{recordNumber}
 use Rattle.grants_file.specs.Block.{countOf, recordsOf}

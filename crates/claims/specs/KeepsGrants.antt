@@ -1,6 +1,6 @@
 -- What is promised of an index whose live grants are gs: its tree, its answers, its files (document 00, demands 1 to 3, of one index).
 -- w are its words, c its cells.
---   ListsGrants w gs     list writes the numbers of the grants that its choice takes  ListsChosen: of one list
+--   ListsGrants w gs     list writes the numbers of the grants that its choice takes  ListsTaken: of one list
 --   DecidesAmong w gs    decide's answer is the foremost of those at the point      Decides: of one grant
 --   MatchesFiles w gs    match finds where they differ from a file                  MatchesSet: from one
 --   WritesFiles w gs     write gives the file of any doors                          Writes: one file
@@ -25,7 +25,7 @@ use Rattle.model.specs.declared.Decision.the-variants as decision
 use Rattle.model.specs.Interval.{Interval, holds}
 use Rattle.model.specs.Box.{doorsOf, pointBox}
 use Rattle.model.specs.Overlap.{Overlap}
-use Rattle.model.specs.Relation.{Chosen}
+use Rattle.model.specs.Relation.{Taken}
 use Rattle.model.specs.Grant.{touches}
 use Rattle.model.specs.Answer.{Answer, accepted, refusal, decisionAnswer}
 use Rattle.model.specs.Decide.{decisionOf}
@@ -43,15 +43,15 @@ use Rattle.calls.specs.FileCalls.{writeCall, loadCall, matchCall}
 use Rattle.claims.specs.Made.{Memory}
 
 -- what list wrote is the numbers of the grants that touch the box, or of those that hold it, each above the one before
-pub record ListsChosen (gs : List Grant) (q : Box) (choice : Choice) (numbers : List ℕ) : Type 0 where
-  pub member : (n : ℕ) → List·Memᴰ n numbers ↔ ((g : Grant) × List·Memᴰ g gs × (g .number ≡ n) × Chosen choice (g .bounds) q)
+pub record ListsTaken (gs : List Grant) (q : Box) (choice : Choice) (numbers : List ℕ) : Type 0 where
+  pub member : (n : ℕ) → List·Memᴰ n numbers ↔ ((g : Grant) × List·Memᴰ g gs × (g .number ≡ n) × Taken choice q g)
   pub rising : (i j : ℕ) → i < j → j < length numbers → getD numbers i 0 < getD numbers j 0
 
 abbrev pub ListsGrants : List ℕ → List Grant → Type 0
 ListsGrants w gs =
     (q : Box) (choice : Choice) (lent : List ℕ) (n : ℕ)
     → let r = listCall w q choice lent in
-    r .answer ≡ accepted (n ∷ []) → ListsChosen gs q choice (take n (r .lent))
+    r .answer ≡ accepted (n ∷ []) → ListsTaken gs q choice (take n (r .lent))
 
 -- the grant g of gs decides at the point: of those that overlap it none has a higher rank, and none of its rank a higher number
 pub record Decides (gs : List Grant) (q : Box) (g : Grant) : Type 0 where

@@ -2,7 +2,7 @@
 -- and "The plain book"). Nothing is assumed but what the type names before its arrow.
 --   SlipsPrint    on every fresh index of c cells, c from 1 to 2,048, whatever its memory held, with every lent list, every list of lines,
 --                 good and bad, prints what the empty book of c prints
---   SlipsTouch    a line's L stands for list under touching, in the words and in the book
+--   SlipsTouch    a slip's L stands for list under touching; `sessionText` goes by it, for the words and for the book
 -- A line is any list of numbers, so any bytes; the contract of `answer` says that the code prints a line's `lineStep` with `wordsStep`.
 use Prim.Native.Nat.{ℕ}
 use mathlib.Core.Path.{_≡_}

@@ -1,5 +1,7 @@
-// The panel's screens of the grants that hold a whole box: one of the staff, one door, quarters from one on to before another.
-ghost use Prim.Native.Nat.{_≤_};
+// The panel's screens of the grants that hold a shift: one of the staff at one door, from a quarter until another. Where list refuses it,
+// with 2 or 9, the refusal is shown in words below the box, and no row.
+ghost use mathlib.Core.Path.{_≡_};
+ghost use Prim.Native.Nat.{_≤_, min};
 use crate::common::say_fault;
 use crate::common::say_moment;
 use crate::shown::Pending;
@@ -23,7 +25,7 @@ use model::Listed;
 use model::MAX_GRANTS;
 use queries::list::list;
 
-// One of the staff at one door.
+// A shift as a box: one of the staff at one door, until the first quarter that it no longer covers.
 pub fn shift_box(staff: u16, door: u16, from: u16, to: u16) -> Box {
     Box {
         staff_from: staff,
@@ -52,7 +54,7 @@ fn say_total(out: Stream, rows: usize) -> Stream {
     let counted = put(put_number(out, rows), b" in all\n");
     put(
         counted,
-        b"a higher grant may decide otherwise for some of it, so ask may\n\n",
+        b"a higher grant may decide otherwise for some or all of it; may tells, a quarter at a time\n\n",
     )
 }
 
@@ -88,6 +90,7 @@ fn say_numbers(out: Stream, file: &[u8], numbers: &[u16]) -> Stream {
 }
 
 fn least(a: usize, b: usize) -> usize
+    ensures { λ r. ⌜ r ≡ min a b ⌝ }
     ensures { λ r. ⌜ (r ≤ a) × (r ≤ b) ⌝ }
 {
     if a < b { a } else { b }

@@ -54,7 +54,7 @@ pub fn say_questions(out: Stream) -> Stream {
     );
     let out = put(
         out,
-        b"  covers STAFF DOOR FROM TO  every grant that holds all of it, from FROM until TO\n",
+        b"  covers STAFF DOOR FROM TO  every grant that covers all of FROM until TO\n",
     );
     let out = put(
         out,

@@ -21,12 +21,12 @@ use Rattle.model.proofs.JudgedLaws.{noneOf-iff}
 use Rattle.model.proofs.RefusalLaws.{firstFault-append}
 use Rattle.geometry.specs.Region.{Region}
 use Rattle.geometry.specs.SearchRange.{rangeOfDoors}
+use Rattle.geometry.specs.Point.{inRange}
 use Rattle.pool.specs.Capacity.{poolCapacity}
 use Rattle.grants_file.specs.File.{doorsIn, grantsIn}
 use Rattle.grants_file.specs.Verdict.{fileCauses, judging}
 use Rattle.grants_file.specs.FileSets.{Accepted}
 use Rattle.grants_file.proofs.GrantSteps.{answer-accepted, answer-refused}
-use Rattle.adt.specs.Search.{inRange}
 use Rattle.steps.specs.declared.hits.Hits.{Hits}
 use Rattle.steps.specs.declared.hits.Hits.the-variants.{Broken, Found}
 use Rattle.calls.specs.Walks.{doorSearch, isBroken}

@@ -19,8 +19,9 @@ use Rattle.model.specs.Refusal.{Step}
 use Rattle.model.specs.Arguments.{reversedDoors}
 use Rattle.geometry.specs.Region.{Region}
 use Rattle.geometry.specs.SearchRange.{rangeOfDoors}
+use Rattle.geometry.specs.Point.{inRange}
 use Rattle.pool.specs.Capacity.{wrongPool, poolCapacity}
-use Rattle.adt.specs.Search.{Search, inRange}
+use Rattle.adt.specs.Search.{Search}
 use Rattle.grants_file.specs.Layout.{blockBytes}
 use Rattle.grants_file.specs.File.{blocksFor, fileOf}
 use Rattle.steps.specs.declared.hits.Hits.{Hits}

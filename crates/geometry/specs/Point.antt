@@ -1,6 +1,7 @@
 -- A grant as a point on seven axes (document 01, "Boxes as points"), and the points of a range.
 --   pointOf g             its coordinates: the three froms, the three tos, the number
 --   insideOn q p a, inside q p   the point lies in the range on the axis, and on every axis; both ends count
+--   inRange q g           the grant's point lies in the range
 -- Assumes nothing: these are definitions.
 use Prim.Native.Nat.{ℕ}
 use mathlib.Core.Bool.{Bool, _&&_}
@@ -22,3 +23,6 @@ insideOn q p a = leb (low q a) (getD p a 0) && leb (getD p a 0) (high q a)
 
 unfoldable pub inside : Region → List ℕ → Bool
 inside q p = each axes (insideOn q p)
+
+abbrev pub inRange : Region → Grant → Bool
+inRange q g = inside q (pointOf g)

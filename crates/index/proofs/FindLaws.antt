@@ -11,9 +11,10 @@ use lib.ListN.{length, take, getD, List·getD-eq-default}
 use Rattle.geometry.specs.Region.{Region}
 use Rattle.geometry.specs.Levels.{levels}
 use Rattle.geometry.specs.SearchRange.{rangeOfNumber}
+use Rattle.geometry.specs.Point.{inRange}
 use Rattle.pool.specs.Capacity.{Sized}
 use Rattle.pool.proofs.CapacityLaws.{capacityOf-poolLength}
-use Rattle.adt.specs.Search.{Spot, going, search, inRange}
+use Rattle.adt.specs.Search.{Spot, going, search}
 use Rattle.adt.specs.SearchMemory.{metIn, foundIn, searchIn, Encodes}
 use Rattle.adt.specs.Links.{Link, hitsAmong}
 use Rattle.adt.proofs.EnterSteps.{stands-as}

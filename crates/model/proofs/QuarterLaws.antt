@@ -1,6 +1,7 @@
--- Laws of ranges of quarters (specs/Quarters).
+-- Laws of ranges of quarters (specs/Quarters), and of boxes that fault 2 lets through.
 --   covers-iff             a quarter is covered from the range's from on, below its to
---   forward-quarters       a box that fault 2 lets through covers a quarter
+--   Forward b, forward-box a box that fault 2 lets through is forward on all three axes
+--   forward-quarters       so it covers a quarter
 --   uncoverable-apart      a box that fits overlaps none that begins at a quarter that no grant can cover
 --   coverable-below        a quarter that a grant can cover is below the highest
 -- Assumes nothing.
@@ -29,9 +30,24 @@ covers-iff r q = (
   (λ h. T-iff (covers r q) .1 (le-both (r .from) q (suc q) (r .to) (h .0) (h .1))),
 )
 
-pub forward-quarters : (b : Box) → reversedBox b ≡ false → b .«quarter_from» < b .«quarter_to»
+pub record Forward (b : Box) : Type 0 where
+  pub staff : b .«staff_from» ≤ b .«staff_to»
+  pub doors : b .«door_from» ≤ b .«door_to»
+  pub quarters : b .«quarter_from» < b .«quarter_to»
+
+pub forward-box : (b : Box) → reversedBox b ≡ false → Forward b
 unfolding reversedBox
-forward-quarters b e = leb-false _ _ (or-false-iff (reversed (staffOf b) || reversed (doorsOf b)) (noQuarters (quartersOf b)) .0 e .1)
+forward-box b e =
+    let last = or-false-iff (reversed (staffOf b) || reversed (doorsOf b)) (noQuarters (quartersOf b)) .0 e in
+    let both = or-false-iff (reversed (staffOf b)) (reversed (doorsOf b)) .0 (last .0) in
+    record {
+      staff = ltb-false (b .«staff_to») (b .«staff_from») (both .0);
+      doors = ltb-false (b .«door_to») (b .«door_from») (both .1);
+      quarters = leb-false (b .«quarter_to») (b .«quarter_from») (last .1);
+    }
+
+pub forward-quarters : (b : Box) → reversedBox b ≡ false → b .«quarter_from» < b .«quarter_to»
+forward-quarters b e = forward-box b e .quarters
 
 pub uncoverable-apart : (a b : Box) → BoxFits a → coverable (b .«quarter_from») ≡ false → overlaps a b ≡ false
 uncoverable-apart a b fits late = go (overlaps a b) refl

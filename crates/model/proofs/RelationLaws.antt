@@ -2,22 +2,19 @@
 --   apart-by, holds-by, touches-by        the answer by the two tests
 --   holdsBox-iff                          the test is the condition
 --   apart-iff, touches-iff, holds-iff     when each answer of the three is given, on every two boxes
---   Forward b, forward-box                a box that fault 2 lets through is forward on all three axes
 --   holds-overlaps                        holding a box that fault 2 lets through is overlapping it
 --   taken-overlaps                        whatever the choice, what is taken overlaps
 --   taken-touching                        touching takes what overlaps
---   taken-iff                             each choice takes what Chosen says
+--   taken-iff                             the test is the condition
 --   takenFor-iff                          so the grants that list takes are those
 -- Assumes nothing.
-use Prim.Native.Nat.{ℕ, _≤_, _<_}
+use Prim.Native.Nat.{ℕ, _≤_}
 use mathlib.Core.Logic.{_↔_}
 use mathlib.Core.Path.{_≡_, refl, sym, ap, _∙_}
-use mathlib.Core.Bool.{Bool, true, false, cond, _&&_, _||_, true≢false}
+use mathlib.Core.Bool.{Bool, true, false, cond, _&&_, true≢false}
 use mathlib.Core.List.{List, List·Memᴰ}
 use native.Mathlib.Omega.{arith}
 use lib.Dec.{T}
-use borrow.Author.Tests.{ltb-false, leb-false}
-use Rattle.lists.proofs.OrLaws.{or-false-iff}
 use Rattle.lists.proofs.TestLaws.{T-iff, T-and, both-le, le-both, mem-filter, filter-mem}
 use Rattle.model.specs.declared.Box.{Box}
 use Rattle.model.specs.declared.Grant.{Grant}
@@ -25,14 +22,12 @@ use Rattle.model.specs.declared.Relation.{Relation}
 use Rattle.model.specs.declared.Relation.the-variants.{Apart, Touches, Holds}
 use Rattle.model.specs.declared.Choice.{Choice}
 use Rattle.model.specs.declared.Choice.the-variants.{Touching, Holding}
-use Rattle.model.specs.Interval.{reversed}
-use Rattle.model.specs.Quarters.{noQuarters}
-use Rattle.model.specs.Box.{staffOf, doorsOf, quartersOf}
 use Rattle.model.specs.Overlap.{Overlap, overlaps}
 use Rattle.model.specs.Arguments.{reversedBox}
-use Rattle.model.specs.Relation.{HoldsBox, holdsRange, holdsBox, relationOf, Chosen, takes, taken}
+use Rattle.model.specs.Relation.{HoldsBox, holdsRange, holdsBox, relationOf, takes, Taken, taken}
 use Rattle.model.specs.Book.{takenFor}
 use Rattle.model.proofs.OverlapLaws.{overlaps-iff}
+use Rattle.model.proofs.QuarterLaws.{forward-box}
 
 module _ (a b : Box) where
   pub apart-by : overlaps a b ≡ false → Apart ≡ relationOf a b
@@ -78,23 +73,6 @@ holdsBox-iff a b =
           three .1
           (two .1 (staff .1 (h .staff-from, h .staff-to), doors .1 (h .door-from, h .door-to)), quarters .1 (h .quarter-from, h .quarter-to))),
     )
-
--- a box that fault 2 lets through is forward on all three axes
-pub record Forward (b : Box) : Type 0 where
-  pub staff : b .«staff_from» ≤ b .«staff_to»
-  pub doors : b .«door_from» ≤ b .«door_to»
-  pub quarters : b .«quarter_from» < b .«quarter_to»
-
-pub forward-box : (b : Box) → reversedBox b ≡ false → Forward b
-unfolding reversedBox
-forward-box b e =
-    let last = or-false-iff (reversed (staffOf b) || reversed (doorsOf b)) (noQuarters (quartersOf b)) .0 e in
-    let both = or-false-iff (reversed (staffOf b)) (reversed (doorsOf b)) .0 (last .0) in
-    record {
-      staff = ltb-false (b .«staff_to») (b .«staff_from») (both .0);
-      doors = ltb-false (b .«door_to») (b .«door_from») (both .1);
-      quarters = leb-false (b .«quarter_to») (b .«quarter_from») (last .1);
-    }
 
 pub holds-overlaps : (a b : Box) → reversedBox b ≡ false → HoldsBox a b → Overlap a b
 holds-overlaps a b e h =
@@ -172,7 +150,7 @@ taken-touching b g = taken-by Touching b g ∙ go (overlaps (g .bounds) b) (hold
     go true false = refl
     go false h = refl
 
-pub taken-iff : (choice : Choice) (b : Box) (g : Grant) → T (taken choice b g) ↔ Chosen choice (g .bounds) b
+pub taken-iff : (choice : Choice) (b : Box) (g : Grant) → T (taken choice b g) ↔ Taken choice b g
 unfolding takes
 taken-iff Touching b g = rw (taken-touching b g) (overlaps-iff (g .bounds) b)
 taken-iff Holding b g =
@@ -185,7 +163,7 @@ taken-iff Holding b g =
     go false h e i = (λ t. absurd t, λ f. absurd (unmet (g .bounds) b e (f .0)))
 
 pub takenFor-iff : (q : Box) (choice : Choice) (gs : List Grant) (g : Grant)
-    → List·Memᴰ g (takenFor q choice gs) ↔ (List·Memᴰ g gs × Chosen choice (g .bounds) q)
+    → List·Memᴰ g (takenFor q choice gs) ↔ (List·Memᴰ g gs × Taken choice q g)
 takenFor-iff q choice gs g =
     let test = T-iff (taken choice q g) in
     let same = taken-iff choice q g in (

@@ -41,11 +41,11 @@ withLive b gs = record { capacity = b .capacity; live = gs }
 abbrev pub isLive : Book → ℕ → Bool
 isLive b n = any (λ g. eqb (g .number) n) (b .live)
 
--- the live grants that overlap a box
+-- the live grants that overlap a box: decide goes by them
 abbrev pub overlapping : Box → List Grant → List Grant
 overlapping q gs = filter (λ g. overlaps (g .bounds) q) gs
 
--- those that list's choice takes for a box
+-- those that list's choice takes for a box; under touching they are the same (model/proofs/RelationLaws `taken-touching`)
 abbrev pub takenFor : Box → Choice → List Grant → List Grant
 takenFor q choice gs = filter (taken choice q) gs
 

@@ -4,8 +4,8 @@
 --   relationOf a b     document 02's answer of three: apart where the two don't overlap (specs/Overlap), which is tested first, on every box;
 --                      else holds, or touches
 --   takes choice r     list's choice takes what stands so: touching includes holding
---   Chosen choice a b  what that asks of the grant's box a: proofs/RelationLaws joins them
---   taken choice b g   it takes the grant g for the box b
+--   Taken choice b g   it takes the grant g for the box b
+--   taken choice b g   the same as a test, by the answer of three; proofs/RelationLaws joins them
 -- Assumes nothing: these are definitions.
 use Prim.Native.Nat.{ℕ, _≤_}
 use mathlib.Core.Bool.{Bool, true, false, cond, _&&_}
@@ -47,9 +47,9 @@ takes Holding Apart = false
 takes Holding Touches = false
 takes Holding Holds = true
 
-abbrev pub Chosen : Choice → Box → Box → Type 0
-Chosen Touching a b = Overlap a b
-Chosen Holding a b = Overlap a b × HoldsBox a b
+abbrev pub Taken : Choice → Box → Grant → Type 0
+Taken Touching b g = Overlap (g .bounds) b
+Taken Holding b g = Overlap (g .bounds) b × HoldsBox (g .bounds) b
 
 abbrev pub taken : Choice → Box → Grant → Bool
 taken choice b g = takes choice (relationOf (g .bounds) b)

@@ -1,6 +1,6 @@
 // How far a grant stands (specs/Precedence): whole, partly, or nowhere because grants that outrank it cover all its staff.
 // The grants are those that touch a door and a quarter: the pool's cells that a search left at the start of its list of hits, as decide
-// reads them. The panel's screen has them from steps::hits::find_hits, whose contract gives what `precedence_among` requires.
+// reads them. The panel's screen has them from steps::hits::find_taken, whose contract gives what `precedence_among` requires.
 ghost use mathlib.Core.Path.{_≡_};
 ghost use Rattle.lists.specs.Tests.{any};
 ghost use Rattle.steps.specs.Hits.{CellsAt, grantsAt};

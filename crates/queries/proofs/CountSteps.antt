@@ -11,8 +11,8 @@ use Rattle.model.specs.declared.Fault.the-variants.{BadPool, BrokenLinks}
 use Rattle.model.specs.Answer.{accepted, refusal}
 use Rattle.geometry.specs.Region.{Region}
 use Rattle.geometry.specs.SearchRange.{rangeOfAll}
+use Rattle.geometry.specs.Point.{inRange}
 use Rattle.pool.specs.Capacity.{poolCapacity}
-use Rattle.adt.specs.Search.{inRange}
 use Rattle.steps.specs.declared.hits.Hits.{Hits}
 use Rattle.steps.specs.declared.hits.Hits.the-variants.{Broken, Found}
 use Rattle.calls.specs.Walks.{fullSearch, isBroken, hitsOf}

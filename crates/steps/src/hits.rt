@@ -1,5 +1,5 @@
 // The searches that list, decide, who, count, write and match make.
-ghost use Rattle.adt.specs.Predicate.{passes};
+ghost use Rattle.adt.specs.Predicate.{testOf};
 ghost use Rattle.steps.specs.Hits.{Searchable, BoxSearchable, HitsFound, TakenFound};
 use adt::predicates::Predicate;
 use adt::search::FOUND;
@@ -25,7 +25,7 @@ pub fn find_hits(
     hits: &mut HitCells,
 ) -> Hits
     requires { ⌜ Searchable (now pool) cells (now range) (now hits) ⌝ }
-    ensures { λ r. ⌜ HitsFound (now (pool .entry)) (now (range .entry)) (passes predicate (now (range .entry))) (now (hits .exit)) r ⌝ }
+    ensures { λ r. ⌜ HitsFound (now (pool .entry)) (now (range .entry)) (testOf predicate (now (range .entry))) (now (hits .exit)) r ⌝ }
 {
     let mut counters = [0usize; 4];
     if !search(pool, cells, range, predicate, hits, &mut counters) {

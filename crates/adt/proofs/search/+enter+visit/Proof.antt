@@ -15,7 +15,7 @@ use Rattle.pool.specs.Capacity.{poolLength}
 use Rattle.geometry.specs.Axis.{axisOf}
 use Rattle.geometry.specs.Levels.{levels}
 use Rattle.geometry.specs.Region.{Region, half, meets}
-use Rattle.adt.specs.Predicate.{passes, predicateIn}
+use Rattle.adt.specs.Predicate.{testOf, predicateIn}
 use Rattle.adt.specs.SearchMemory.{Counted, Encodes, Visiting, Entering}
 use Rattle.adt.proofs.EnterSteps.{ChildRegion, child-meets, child-half, child-root, child-deep, child-apart, child-past, child-visited}
 use Rattle.adt.proofs.EnterSteps.{encodes-as, subtree, subtree-blank, subtree-entered, visit-cut, visit-left-cut, visit-whole}
@@ -244,9 +244,9 @@ left-subtree : (t : ℕ) (c : visit-lts.Joined2 (visit-calls t) (visit-at t) vis
     → let tested = c .before .before .before .before in
     let a = tested .before .before .before .before .args in
     let exit = tested .test .last .1 .1 .1 .1 .1 .1 .1 in
-    let isHit = passes (predicateIn (a .predicate .now)) (a .range .now) in
+    let test = testOf (predicateIn (a .predicate .now)) (a .range .now) in
     Encodes (a .cells) true (c .if2 .hits) (c .if2 .counters)
-    (subtree (a .pool .now) (a .cells) (a .range .now) isHit (a .below) (a .k) Left (a .region) (exit .0) (exit .1 .0))
+    (subtree (a .pool .now) (a .cells) (a .range .now) test (a .below) (a .k) Left (a .region) (exit .0) (exit .1 .0))
 left-subtree t c =
     let linked = c .before .before in
     let tested = linked .before .before in
