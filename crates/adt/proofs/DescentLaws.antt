@@ -31,24 +31,25 @@ use Rattle.adt.proofs.PartLaws.{Part, part-here, part-child}
 use Rattle.adt.proofs.PartRegion.{regionIn}
 
 -- a step of the way down
-module _ (w : List ℕ) (c : ℕ) (p : List ℕ) (n at : ℕ) (g : Region) (met : ℕ) where
-  descent-blank : getD w at 0 ≡ 0 → descendFrom w c p (suc n) at g met ≡ blankAt at
+module _ (w : List ℕ) (c : ℕ) (p : List ℕ) (n from at : ℕ) (g : Region) (met : ℕ) where
+  descent-blank : getD w at 0 ≡ 0 → descendFrom w c p (suc n) from at g met ≡ blankAt at from
   unfolding descendFrom
   descent-blank e = rw (eq-eqb (getD w at 0) 0 e)
 
   descent-on : (k : ℕ) → getD w at 0 ≡ k → 0 < k → k ≤ c → met < c → (s : Side) → sideOf g (axisOf (levels - n)) (getD p (axisOf (levels - n)) 0) ≡ s
-      → descendFrom w c p (suc n) at g met ≡ descendFrom w c p n (linkPlace k s) (half s g (axisOf (levels - n))) (suc met)
+      → descendFrom w c p (suc n) from at g met ≡ descendFrom w c p n k (linkPlace k s) (half s g (axisOf (levels - n))) (suc met)
   unfolding descendFrom
   descent-on k is pos le lt s e = rw (is, ne-eqb k 0 (omega arith), le-leb k c le, lt-ltb met c lt, e)
 
 -- from the place `at`, where the tree t hangs in the region g, the way leads to the blank part of t at the place `link`
-record LeadsFrom (w : List ℕ) (c : ℕ) (p : List ℕ) (n at : ℕ) (g : Region) (met : ℕ) (t : Tree) : Type 0 where
+record LeadsFrom (w : List ℕ) (c : ℕ) (p : List ℕ) (n from at : ℕ) (g : Region) (met : ℕ) (t : Tree) : Type 0 where
   link : ℕ
   below : ℕ
   part : Part (suc n) at t (suc below) link blank
   isBlank : getD w link 0 ≡ 0
   holds : inside (regionIn part g) p ≡ true
-  way : descendFrom w c p (suc n) at g met ≡ blankAt link
+  parent : ℕ
+  way : descendFrom w c p (suc n) from at g met ≡ blankAt link parent
 
 -- each cell's point differs from p
 abbrev pub Apart : List ℕ → List ℕ → Tree → Type 0
@@ -60,12 +61,12 @@ either P x y Left = x
 either P x y Right = y
 
 module _ (w : List ℕ) (c : ℕ) (p : List ℕ) where
-  node-leads : {n at k met : ℕ} {g : Region} {l r : Tree} → getD w at 0 ≡ k → 0 < k → k ≤ c → met < c
+  node-leads : {n from at k met : ℕ} {g : Region} {l r : Tree} → getD w at 0 ≡ k → 0 < k → k ≤ c → met < c
       → ((s : Side) → sideOf g (axisOf (levels - suc n)) (getD p (axisOf (levels - suc n)) 0) ≡ s
-      → LeadsFrom w c p n (linkPlace k s) (half s g (axisOf (levels - suc n))) (suc met) (child s l r))
-      → LeadsFrom w c p (suc n) at g met (node k l r)
+      → LeadsFrom w c p n k (linkPlace k s) (half s g (axisOf (levels - suc n))) (suc met) (child s l r))
+      → LeadsFrom w c p (suc n) from at g met (node k l r)
   unfolding regionIn
-  node-leads {n} {at} {k} {met} {g} is pos le lt children =
+  node-leads {n} {from} {at} {k} {met} {g} is pos le lt children =
       let a = axisOf (levels - suc n) in
       let s = sideOf g a (getD p a 0) in
       let below = children s refl in
@@ -75,25 +76,26 @@ module _ (w : List ℕ) (c : ℕ) (p : List ℕ) where
         part = part-child s (below .part);
         isBlank = below .isBlank;
         holds = below .holds;
-        way = descent-on w c p (suc n) at g met k is pos le lt s refl ∙ below .way;
+        parent = below .parent;
+        way = descent-on w c p (suc n) from at g met k is pos le lt s refl ∙ below .way;
       }
 
-  leads : {n k : ℕ} {g : Region} {t : Tree} (at met : ℕ) → getD w at 0 ≡ k → Spells w c (suc n) g k t → Shape g → Wide n g → inside g p ≡ true
-      → Apart w p t → met + size t ≤ c → LeadsFrom w c p n at g met t
+  leads : {n k : ℕ} {g : Region} {t : Tree} (from at met : ℕ) → getD w at 0 ≡ k → Spells w c (suc n) g k t → Shape g → Wide n g → inside g p ≡ true
+      → Apart w p t → met + size t ≤ c → LeadsFrom w c p n from at g met t
   unfolding cellsOf size regionIn
-  leads {n} {g = g} at met is spells-blank v f i d fits =
-      record { link = at; below = n; part = part-here; isBlank = is; holds = i; way = descent-blank w c p n at g met is }
-  leads {n = zero} {g = g} at met is (spells-node {k = k} pos le j x y) v f i d fits =
+  leads {n} {g = g} from at met is spells-blank v f i d fits =
+      record { link = at; below = n; part = part-here; isBlank = is; holds = i; parent = from; way = descent-blank w c p n from at g met is }
+  leads {n = zero} {g = g} from at met is (spells-node {k = k} pos le j x y) v f i d fits =
       absurd (d k (List·Memᴰ·head refl) .differ (wide-single p (pointAt w k) f i j))
-  leads {n = suc n} {g = g} at met is (spells-node {k = k} {l = l} {r = r} pos le j x y) v f i d fits =
+  leads {n = suc n} {g = g} from at met is (spells-node {k = k} {l = l} {r = r} pos le j x y) v f i d fits =
       let a = axisOf (levels - suc n) in
       let lt = axis-lt (levels - suc n) in
       let on = inside-half g a v lt p i in
       node-leads {l = l} {r = r} is pos le (omega arith)
-      (either (λ s. sideOf g a (getD p a 0) ≡ s → LeadsFrom w c p n (linkPlace k s) (half s g a) (suc met) (child s l r))
-      (λ e. leads (linkPlace k Left) (suc met) refl x (half-shape Left g a v lt) (half-wide Left v f) (rw e at on)
+      (either (λ s. sideOf g a (getD p a 0) ≡ s → LeadsFrom w c p n k (linkPlace k s) (half s g a) (suc met) (child s l r))
+      (λ e. leads k (linkPlace k Left) (suc met) refl x (half-shape Left g a v lt) (half-wide Left v f) (rw e at on)
       (λ z m. d z (child-cells Left k l r z m)) (omega arith))
-      (λ e. leads (linkPlace k Right) (suc met) refl y (half-shape Right g a v lt) (half-wide Right v f) (rw e at on)
+      (λ e. leads k (linkPlace k Right) (suc met) refl y (half-shape Right g a v lt) (half-wide Right v f) (rw e at on)
       (λ z m. d z (child-cells Right k l r z m)) (omega arith)))
 
 pub record Leads (w p : List ℕ) (t : Tree) : Type 0 where
@@ -102,19 +104,21 @@ pub record Leads (w p : List ℕ) (t : Tree) : Type 0 where
   pub part : Part (suc levels) rootPlace t (suc below) link blank
   pub isBlank : getD w link 0 ≡ 0
   pub holds : inside (regionIn part rootRegion) p ≡ true
-  pub way : descend w p ≡ blankAt link
+  pub parent : ℕ
+  pub way : descend w p ≡ blankAt link parent
 
 pub descend-leads : {w : List ℕ} {c : ℕ} {t : Tree} (p : List ℕ) → Spells w c (suc levels) rootRegion (getD w rootPlace 0) t → Distinct (cellsOf t)
     → capacityOf w ≡ c
     → inside rootRegion p ≡ true → Apart w p t → Leads w p t
 unfolding descend
 descend-leads {w} {c} p s d e i apart =
-    let found = leads w c p rootPlace 0 refl s root-shape root-wide i apart (omega (arith, size-few s d)) in
+    let found = leads w c p 0 rootPlace 0 refl s root-shape root-wide i apart (omega (arith, size-few s d)) in
     record {
       link = found .link;
       below = found .below;
       part = found .part;
       isBlank = found .isBlank;
       holds = found .holds;
-      way = ap (λ (k : ℕ). descendFrom w k p (suc levels) rootPlace rootRegion 0) e ∙ found .way;
+      parent = found .parent;
+      way = ap (λ (k : ℕ). descendFrom w k p (suc levels) 0 rootPlace rootRegion 0) e ∙ found .way;
     }

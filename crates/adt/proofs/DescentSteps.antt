@@ -27,45 +27,45 @@ use Rattle.adt.specs.Insert as insert
 use Rattle.adt.specs.Remove.{terminal, nextLink, follow, replaced, unlinked, freed, removed}
 use Rattle.adt.specs.Remove as remove
 
-module _ (w : List ℕ) (c : ℕ) (p : List ℕ) (n link : ℕ) (g : Region) (met : ℕ) where
-  pub descent-end : n ≤ 0 → insert.broken ≡ descendFrom w c p n link g met
+module _ (w : List ℕ) (c : ℕ) (p : List ℕ) (n from link : ℕ) (g : Region) (met : ℕ) where
+  pub descent-end : n ≤ 0 → insert.broken ≡ descendFrom w c p n from link g met
   unfolding descendFrom
   descent-end h = go n h
     where
-      go : (n : ℕ) → n ≤ 0 → insert.broken ≡ descendFrom w c p n link g met
+      go : (n : ℕ) → n ≤ 0 → insert.broken ≡ descendFrom w c p n from link g met
       go zero h = refl
       go (suc n) h = absurd (omega arith)
 
   module _ (k : ℕ) (some : 0 < n) (e : k ≡ getD w link 0) where
     -- the rest of the way, along the child on the side that holds the point
     abbrev onward : ℕ → Side → InsertionWalk
-    onward a s = descendFrom w c p (n - 1) (linkPlace k s) (half s g a) (met + 1)
+    onward a s = descendFrom w c p (n - 1) k (linkPlace k s) (half s g a) (met + 1)
 
     -- the way goes on, or ends, by the tests of k
     descent-cases : {a : ℕ} {s : Side} → a ≡ axisOf (levels - (n - 1)) → s ≡ sideOf g a (getD p a 0)
-        → cond (eqb k 0) (blankAt link) (cond (leb k c && ltb met c) (onward a s) insert.broken) ≡ descendFrom w c p n link g met
+        → cond (eqb k 0) (blankAt link from) (cond (leb k c && ltb met c) (onward a s) insert.broken) ≡ descendFrom w c p n from link g met
     unfolding descendFrom
     descent-cases ea es = go n some ea es
       where
         go : (n : ℕ) → 0 < n → {a : ℕ} {s : Side} → a ≡ axisOf (levels - (n - 1)) → s ≡ sideOf g a (getD p a 0)
-            → cond (eqb k 0) (blankAt link) (cond (leb k c && ltb met c) (descendFrom w c p (n - 1) (linkPlace k s) (half s g a) (met + 1)) insert.broken)
-            ≡ descendFrom w c p n link g met
+            → cond (eqb k 0) (blankAt link from) (cond (leb k c && ltb met c) (descendFrom w c p (n - 1) k (linkPlace k s) (half s g a) (met + 1)) insert.broken)
+            ≡ descendFrom w c p n from link g met
         go zero h ea es = absurd (omega arith)
         go (suc n) h ea es = rw (es, ea, ← e, sub-one (suc n), add-one met)
 
-    pub descent-blank : k ≡ 0 → blankAt link ≡ descendFrom w c p n link g met
+    pub descent-blank : k ≡ 0 → blankAt link from ≡ descendFrom w c p n from link g met
     descent-blank z = rw (eq-eqb k 0 z) at (descent-cases refl refl)
 
     module _ (nz : ¬ (k ≡ 0)) where
-      pub descent-above : c < k → insert.broken ≡ descendFrom w c p n link g met
+      pub descent-above : c < k → insert.broken ≡ descendFrom w c p n from link g met
       descent-above h = rw (ne-eqb k 0 nz, lt-leb k c h) at (descent-cases refl refl)
 
       module _ (le : k ≤ c) where
-        pub descent-full : c ≤ met → insert.broken ≡ descendFrom w c p n link g met
+        pub descent-full : c ≤ met → insert.broken ≡ descendFrom w c p n from link g met
         descent-full h = rw (ne-eqb k 0 nz, le-leb k c le, le-ltb met c h) at (descent-cases refl refl)
 
         pub descent-next : met < c → {a link′ : ℕ} {s : Side} {g′ : Region} → a ≡ axisOf (levels - (n - 1)) → s ≡ sideOf g a (getD p a 0)
-            → g′ ≡ half s g a → link′ ≡ linkPlace k s → descendFrom w c p (n - 1) link′ g′ (met + 1) ≡ descendFrom w c p n link g met
+            → g′ ≡ half s g a → link′ ≡ linkPlace k s → descendFrom w c p (n - 1) k link′ g′ (met + 1) ≡ descendFrom w c p n from link g met
         descent-next h ea es eg el = rw (eg, el) (rw (ne-eqb k 0 nz, le-leb k c le, lt-ltb met c h) at (descent-cases ea es))
 
 module _ (w : List ℕ) (c n k link met : ℕ) (at next : ℕ) (ea : at ≡ nextLink w k) (e : next ≡ getD w at 0) where

@@ -40,22 +40,22 @@ unless-mem : (b : Bool) (links : List Link) {f : Link} → List·Memᴰ f (cond 
 unless-mem true links m = absurd (List·Memᴰ·not-nil m)
 unless-mem false links m = (refl, m)
 
-to-some : {f : Link} {l k : ℕ} → eqb k 0 ≡ false → f ≡ record { level = l; to = k } → 0 < f .to
-to-some {f} {l} {k} n e = let z : ¬ (k ≡ 0) = eqb-false k 0 n in let t : f .to ≡ k = ap (λ (x : Link). x .to) e in omega arith
+to-some : {f : Link} {l from k : ℕ} → eqb k 0 ≡ false → f ≡ record { level = l; from = from; to = k } → 0 < f .to
+to-some {f} {l} {from} {k} n e = let z : ¬ (k ≡ 0) = eqb-false k 0 n in let t : f .to ≡ k = ap (λ (x : Link). x .to) e in omega arith
 
-pub links-some : (w : List ℕ) (q : Region) (n l at : ℕ) (g : Region) (f : Link) → List·Memᴰ f (searchFrom w q n l at g) → 0 < f .to
+pub links-some : (w : List ℕ) (q : Region) (n l from at : ℕ) (g : Region) (f : Link) → List·Memᴰ f (searchFrom w q n l from at g) → 0 < f .to
 unfolding searchFrom
-links-some w q zero l at g f m = let u = unless-mem (eqb (getD w at 0) 0) _ m in to-some (u .0) (List·Memᴰ·eq-of-singleton (u .1))
-links-some w q (suc n) l at g f m =
+links-some w q zero l from at g f m = let u = unless-mem (eqb (getD w at 0) 0) _ m in to-some (u .0) (List·Memᴰ·eq-of-singleton (u .1))
+links-some w q (suc n) l from at g f m =
     let k = getD w at 0 in
     let u = unless-mem (eqb k 0) _ m in
     let v = cond-mem (meets g q) _ (u .1) in
     ⊎-elim
     (λ e. to-some (u .0) e)
     (λ r. ⊎-elim
-    (λ x. links-some w q n (suc l) (linkPlace k Left) (half Left g (axisOf l)) f x)
-    (λ y. links-some w q n (suc l) (linkPlace k Right) (half Right g (axisOf l)) f y)
-    (List·Memᴰ·append-cases (searchFrom w q n (suc l) (linkPlace k Left) (half Left g (axisOf l))) r))
+    (λ x. links-some w q n (suc l) k (linkPlace k Left) (half Left g (axisOf l)) f x)
+    (λ y. links-some w q n (suc l) k (linkPlace k Right) (half Right g (axisOf l)) f y)
+    (List·Memᴰ·append-cases (searchFrom w q n (suc l) k (linkPlace k Left) (half Left g (axisOf l))) r))
     (List·Memᴰ·cases-cons (v .1))
 
 -- no link of an unbroken walk is above C
@@ -91,7 +91,7 @@ hits-within w q passes met hits first e k m =
     let s = search-going w q passes met hits first e in
     let f = map-mem _ k (subst (List·Memᴰ k) (s .found) m) in
     let on = filter-mem (isHit w passes) _ (f .0) (f .2) .0 in
-    let some = links-some w q _ _ _ _ (f .0) on in
+    let some = links-some w q _ _ _ _ _ (f .0) on in
     let few = unbroken-below (capacityOf w) _ (or-left _ _ (s .whole)) (f .0) on in
     record { some = subst (λ (x : ℕ). 0 < x) (f .1) some; few = subst (λ (x : ℕ). x ≤ capacityOf w) (f .1) few }
 

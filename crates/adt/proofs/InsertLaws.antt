@@ -29,11 +29,13 @@ use Rattle.geometry.specs.Region.{Region, rootRegion, sideOf, half}
 use Rattle.geometry.specs.Point.{inside, pointOf}
 use Rattle.geometry.proofs.AxisLaws.{axis-lt}
 use Rattle.geometry.proofs.RegionLaws.{Shape, root-shape, half-shape, inside-half}
-use Rattle.pool.specs.Layout.{capacityPlace, rootPlace, freePlace, offset, fieldOf}
+use Rattle.pool.specs.declared.Field.{Field}
+use Rattle.pool.specs.declared.Field.the-variants as field
+use Rattle.pool.specs.Layout.{capacityPlace, rootPlace, freePlace, offset, place, fieldOf}
 use Rattle.pool.specs.Capacity.{poolLength, capacityOf}
 use Rattle.pool.specs.Cell.{grantAt, cellOf, withCell}
 use Rattle.pool.proofs.LayoutLaws.{field-set-header}
-use Rattle.pool.proofs.CellLaws.{SameGrantWords, length-withCell, field-withCell-same, field-withCell-other}
+use Rattle.pool.proofs.CellLaws.{grant-past, SameGrantWords, length-withCell, field-withCell-same, field-withCell-other}
 use Rattle.pool.proofs.CellLaws.{header-withCell, grantAt-same, grantAt-withCell-same}
 use Rattle.pool.proofs.FreeCellLaws.{Cleared, cleared-same}
 use Rattle.adt.specs.Node.{linkField, linkPlace}
@@ -41,8 +43,8 @@ use Rattle.adt.specs.Insert.{InsertionWalk, broken, blankAt, descendFrom
 use Rattle.adt.proofs.Spells.{Tree, blank, node, cellsOf, Spells, spells-blank, spells-node, FreeChain, chain-more}
 use Rattle.adt.proofs.TreeLaws.{child, spells-child}
 use Rattle.adt.proofs.PartLaws.{Part, part-here, part-child}
-use Rattle.adt.proofs.NodeLaws.{Away, root-away, other-away, Hook, hook-root, hook-link}
-use Rattle.adt.proofs.NodeLaws.{hook-within, hook-header, hook-not-free, field-set-hook, hook-withCell}
+use Rattle.adt.proofs.NodeLaws.{Away, root-away, Hook, hook-root, hook-link}
+use Rattle.adt.proofs.NodeLaws.{hook-within, hook-header, hook-not-free, hook-past, hook-away, field-set-hook}
 use Rattle.adt.proofs.FrameLaws.{chain-frame}
 use Rattle.adt.proofs.PartRegion.{regionIn}
 use Rattle.adt.proofs.ExchangeLaws.{exchanged, outside, exchanged-same, exchanged-put, part-outside, part-away, part-hook, Kept, exchanged-spells}
@@ -59,35 +61,35 @@ unfolding regionIn
 blank-child s b = record { below = b .below; part = part-child s (b .part); inside = b .inside }
 
 -- the end of a way that is not broken
-descent-on : (t : Bool) (way : InsertionWalk) (link : ℕ) → cond t way broken ≡ blankAt link → way ≡ blankAt link
-descent-on true way link e = e
-descent-on false way link e = absurd (let z : _≡_ {A = ℕ} 0 1 = cc in omega arith)
+descent-on : (t : Bool) (way : InsertionWalk) (link parent : ℕ) → cond t way broken ≡ blankAt link parent → way ≡ blankAt link parent
+descent-on true way link parent e = e
+descent-on false way link parent e = absurd (let z : _≡_ {A = ℕ} 0 1 = cc in omega arith)
 
 blank-here : {p : List ℕ} {n at : ℕ} {g : Region} {link : ℕ} → inside g p ≡ true → at ≡ link → BlankPart p (suc n) at blank g link
 unfolding regionIn
 blank-here {p} {n} {at} {g} i e = subst (BlankPart p (suc n) at blank g) e (record { below = n; part = part-here; inside = i })
 
-pub descendFrom-blank : {w : List ℕ} {c k : ℕ} {t : Tree} {g : Region} {link : ℕ} (p : List ℕ) (n at met : ℕ) → Spells w c n g k t → getD w at 0 ≡ k
-    → Shape g → inside g p ≡ true → descendFrom w c p n at g met ≡ blankAt link → BlankPart p n at t g link
+pub descendFrom-blank : {w : List ℕ} {c k : ℕ} {t : Tree} {g : Region} {link parent : ℕ} (p : List ℕ) (n from at met : ℕ) → Spells w c n g k t → getD w at 0 ≡ k
+    → Shape g → inside g p ≡ true → descendFrom w c p n from at g met ≡ blankAt link parent → BlankPart p n at t g link
 unfolding descendFrom
-descendFrom-blank p zero at met sp e shape i found = absurd (let z : _≡_ {A = ℕ} 0 1 = cc in omega arith)
-descendFrom-blank {w} {link = link} p (suc n) at met spells-blank e shape i found =
-    let here : blankAt at ≡ blankAt link = rw (eq-eqb (getD w at 0) 0 e) at found in
+descendFrom-blank p zero from at met sp e shape i found = absurd (let z : _≡_ {A = ℕ} 0 1 = cc in omega arith)
+descendFrom-blank {w} {link = link} {parent = parent} p (suc n) from at met spells-blank e shape i found =
+    let here : blankAt at from ≡ blankAt link parent = rw (eq-eqb (getD w at 0) 0 e) at found in
     blank-here i (cc)
-descendFrom-blank {w} {c} {link = link} p (suc n) at met (spells-node {g = g} {k = k} {l = l} {r = r} pos le j x y) e shape i found =
+descendFrom-blank {w} {c} {link = link} {parent = parent} p (suc n) from at met (spells-node {g = g} {k = k} {l = l} {r = r} pos le j x y) e shape i found =
     let a = axisOf (levels - n) in
     let lt = axis-lt (levels - n) in
     let s = sideOf g a (getD p a 0) in
-    let on : cond (leb k c && ltb met c) (descendFrom w c p n (linkPlace k s) (half s g a) (suc met)) broken ≡ blankAt link =
+    let on : cond (leb k c && ltb met c) (descendFrom w c p n k (linkPlace k s) (half s g a) (suc met)) broken ≡ blankAt link parent =
     rw (e, ne-eqb k 0 (omega arith)) at found in
     blank-child s
-    (descendFrom-blank p n (linkPlace k s) (suc met) (spells-child s (spells-node pos le j x y)) refl (half-shape s g a shape lt) (inside-half g a shape lt p i)
-    (descent-on (leb k c && ltb met c) (descendFrom w c p n (linkPlace k s) (half s g a) (suc met)) link on))
+    (descendFrom-blank p n k (linkPlace k s) (suc met) (spells-child s (spells-node pos le j x y)) refl (half-shape s g a shape lt) (inside-half g a shape lt p i)
+    (descent-on (leb k c && ltb met c) (descendFrom w c p n k (linkPlace k s) (half s g a) (suc met)) link parent on))
 
-pub descend-blank : {w : List ℕ} {c : ℕ} {t : Tree} {link : ℕ} (p : List ℕ) → capacityOf w ≡ c → Spells w c (suc levels) rootRegion (getD w rootPlace 0) t
-    → inside rootRegion p ≡ true → descend w p ≡ blankAt link → BlankPart p (suc levels) rootPlace t rootRegion link
+pub descend-blank : {w : List ℕ} {c : ℕ} {t : Tree} {link parent : ℕ} (p : List ℕ) → capacityOf w ≡ c → Spells w c (suc levels) rootRegion (getD w rootPlace 0) t
+    → inside rootRegion p ≡ true → descend w p ≡ blankAt link parent → BlankPart p (suc levels) rootPlace t rootRegion link
 unfolding descend
-descend-blank p cap sp i found = descendFrom-blank p (suc levels) rootPlace 0 sp refl root-shape i (rw cap at found)
+descend-blank p cap sp i found = descendFrom-blank p (suc levels) 0 rootPlace 0 sp refl root-shape i (rw cap at found)
 
 -- the words with the cell stored, and with its link
 abbrev stored : List ℕ → Grant → List ℕ
@@ -123,13 +125,20 @@ module _ (w : List ℕ) (g : Grant) {c at : ℕ} (hook : Hook c at) (long : leng
       getD-set-other (added w at g) freePlace at (nextFree w) 0 (hook-not-free hook)
       ∙ getD-set-same (stored w g) at (freeHead w) 0 (omega (arith, hook-within hook, length-withCell w (freeHead w) (cellOf 0 0 g)))
 
-  -- where others hang
-  pub inserted-other : {link : ℕ} → Hook c link → link ≢ at → Away link (freeHead w) → getD (inserted w at g) link 0 ≡ getD w link 0
+  -- the root's word, and the fields of others, but where it hangs
+  pub inserted-root : rootPlace ≢ at → getD (inserted w at g) rootPlace 0 ≡ getD w rootPlace 0
   unfolding inserted
-  inserted-other {link} other apart away =
-      getD-set-other (added w at g) freePlace link (nextFree w) 0 (hook-not-free other)
-      ∙ getD-set-other (stored w g) at link (freeHead w) 0 apart
-      ∙ hook-withCell w (freeHead w) (cellOf 0 0 g) refl pos other away
+  inserted-root apart =
+      getD-set-other (added w at g) freePlace rootPlace (nextFree w) 0 (omega arith)
+      ∙ getD-set-other (stored w g) at rootPlace (freeHead w) 0 apart
+      ∙ header-withCell w (freeHead w) (cellOf 0 0 g) refl rootPlace (omega arith)
+
+  pub inserted-field : (k : ℕ) (f : Field) → 0 < k → ¬ (k ≡ freeHead w) → place k f ≢ at → fieldOf (inserted w at g) k f ≡ fieldOf w k f
+  unfolding inserted fieldOf
+  inserted-field k f hk n apart =
+      field-set-header (added w at g) freePlace k f (nextFree w) (omega arith)
+      ∙ getD-set-other (stored w g) at (place k f) (freeHead w) 0 apart
+      ∙ field-withCell-other w (freeHead w) (cellOf 0 0 g) refl k f hk pos n
 
   -- its own links are blank
   pub inserted-links : (s : Side) → Away at (freeHead w) → getD (inserted w at g) (linkPlace (freeHead w) s) 0 ≡ 0
@@ -149,17 +158,13 @@ module _ (w : List ℕ) (g : Grant) {c at : ℕ} (hook : Hook c at) (long : leng
   unfolding inserted
   inserted-words f h =
       field-set-header (added w at g) freePlace (freeHead w) f (nextFree w) (omega arith)
-      ∙ field-set-hook (stored w g) (freeHead w) (freeHead w) f hook h
+      ∙ field-set-hook (stored w g) (freeHead w) (freeHead w) f hook (grant-past f h)
 
   pub inserted-grant : GrantFits g → grantAt (inserted w at g) (freeHead w) ≡ g
   inserted-grant fits = grantAt-same (stored w g) (inserted w at g) (freeHead w) inserted-words ∙ grantAt-withCell-same w c (freeHead w) 0 0 g pos le long fits
 
   pub inserted-kept : (k : ℕ) → 0 < k → ¬ (k ≡ freeHead w) → SameGrantWords w (inserted w at g) k
-  unfolding inserted
-  inserted-kept k hk n f h =
-      field-set-header (added w at g) freePlace k f (nextFree w) (omega arith)
-      ∙ field-set-hook (stored w g) k (freeHead w) f hook h
-      ∙ field-withCell-other w (freeHead w) (cellOf 0 0 g) refl k f hk pos n
+  inserted-kept k hk n f h = inserted-field k f hk n (hook-past k f hook (grant-past f h))
 
 -- the first free cell
 pub record FirstFree (w : List ℕ) (c j k : ℕ) (ks : List ℕ) : Type 0 where
@@ -208,15 +213,15 @@ module _ {w : List ℕ} {c : ℕ} {t : Tree} {ks : List ℕ} {g : Grant} {at : �
   free-away : (j : ℕ) → List·Memᴰ j (freeHead w ∷ ks) → Away at j
   free-away j m = part-away (b .part) j (root-away j) (linked-upto h j (Memᴰ·append-right (cellsOf t) m) .0) upto-outside (not-outside j m)
 
-  -- another cell's link
-  kept-link : (j : ℕ) (s : Side) → 0 < j → j ≤ c → ¬ (j ≡ freeHead w) → linkPlace j s ≢ at → getD (inserted w at g) (linkPlace j s) 0 ≡ getD w (linkPlace j s) 0
-  kept-link j s pos le n apart =
-      inserted-other w g hook (h .long) (own .pos) (own .le) (hook-link s pos le) apart (other-away j (freeHead w) s pos (own .pos) n)
+  -- another cell's fields
+  kept-field : (j : ℕ) (f : Field) → 0 < j → ¬ (j ≡ freeHead w) → place j f ≢ at → fieldOf (inserted w at g) j f ≡ fieldOf w j f
+  kept-field j f pos n apart = inserted-field w g hook (h .long) (own .pos) (own .le) j f pos n apart
 
   kept-grant : (j : ℕ) → 0 < j → ¬ (j ≡ freeHead w) → grantAt (inserted w at g) j ≡ grantAt w j
   kept-grant j pos n = grantAt-same w (inserted w at g) j (inserted-kept w g hook (h .long) (own .pos) (own .le) j pos n)
 
   kept-outside : Kept w (inserted w at g) c rootPlace at (outside (b .part))
+  unfolding fieldOf
   kept-outside = record {
     distinct = distinct-outside;
     upto = upto-outside;
@@ -224,8 +229,8 @@ module _ {w : List ℕ} {c : ℕ} {t : Tree} {ks : List ℕ} {g : Grant} {at : �
     same = λ j m.
         let n : ¬ (j ≡ freeHead w) = λ e. not-outside (freeHead w) (List·Memᴰ·head refl) (Memᴰ·cast (sym e) m) in
         let bounds = upto-outside j m in
-        record { links = λ s apart. kept-link j s (bounds .0) (bounds .1) n apart; grant = kept-grant j (bounds .0) n };
-    top = λ apart. inserted-other w g hook (h .long) (own .pos) (own .le) hook-root apart (root-away (freeHead w));
+        record { links = λ s apart. kept-field j (linkField s) (bounds .0) n apart; grant = kept-grant j (bounds .0) n };
+    top = inserted-root w g hook (h .long) (own .pos) (own .le);
   }
 
   grown : Tree
@@ -251,19 +256,15 @@ module _ {w : List ℕ} {c : ℕ} {t : Tree} {ks : List ℕ} {g : Grant} {at : �
   free-other : (j : ℕ) → List·Memᴰ j ks → ¬ (j ≡ freeHead w)
   free-other j m e = distinct-apart (freeHead w ∷ []) (distinct-right (cellsOf t) (linked-distinct h)) j (List·Memᴰ·head e) m
 
-  free-link : (j : ℕ) (s : Side) → List·Memᴰ j ks → getD (inserted w at g) (linkPlace j s) 0 ≡ getD w (linkPlace j s) 0
-  free-link j s m = kept-link j s (free-bounds j m .0) (free-bounds j m .1) (free-other j m) (free-away j (List·Memᴰ·tail m) s)
+  free-field : (j : ℕ) (f : Field) → List·Memᴰ j ks → fieldOf (inserted w at g) j f ≡ fieldOf w j f
+  free-field j f m = kept-field j f (free-bounds j m .0) (free-other j m) (hook-away j hook (free-away j (List·Memᴰ·tail m)) f)
 
   chain-rest : FreeChain (inserted w at g) c (freeHead (inserted w at g)) ks
   unfolding fieldOf
-  chain-rest = rw (inserted-freeHead w g hook (h .long) (own .pos) (own .le)) (chain-frame (λ j m. free-link j Left m) (own .rest))
+  chain-rest = rw (inserted-freeHead w g hook (h .long) (own .pos) (own .le)) (chain-frame (λ j m. free-field j field.Left m) (own .rest))
 
   cleared-rest : (j : ℕ) → List·Memᴰ j ks → Cleared (inserted w at g) j
-  unfolding fieldOf
-  cleared-rest j m =
-      cleared-same w (inserted w at g) j (free-link j Right m)
-      (inserted-kept w g hook (h .long) (own .pos) (own .le) j (free-bounds j m .0) (free-other j m))
-      (h .cleared j (List·Memᴰ·tail m))
+  cleared-rest j m = cleared-same w (inserted w at g) j (λ f. free-field j f m) (h .cleared j (List·Memᴰ·tail m))
 
   linked-new : Linked (inserted w at g) c grown ks
   unfolding grown
@@ -292,9 +293,9 @@ module _ {w : List ℕ} {c : ℕ} {t : Tree} {ks : List ℕ} {g : Grant} {at : �
     other-words = words-kept;
   }
 
-pub insert-keeps-linked : {w : List ℕ} {c : ℕ} {t : Tree} {k : ℕ} {ks : List ℕ} {g : Grant} {at : ℕ} → Linked w c t (k ∷ ks) → GrantFits g
-    → inside rootRegion (pointOf g) ≡ true → descend w (pointOf g) ≡ blankAt at → Inserted w (inserted w at g) c t k ks g
-insert-keeps-linked {w} {c} {t} {k} {ks} {g} {at} h fits i found =
+pub insert-keeps-linked : {w : List ℕ} {c : ℕ} {t : Tree} {k : ℕ} {ks : List ℕ} {g : Grant} {at parent : ℕ} → Linked w c t (k ∷ ks) → GrantFits g
+    → inside rootRegion (pointOf g) ≡ true → descend w (pointOf g) ≡ blankAt at parent → Inserted w (inserted w at g) c t k ks g
+insert-keeps-linked {w} {c} {t} {k} {ks} {g} {at} {parent} h fits i found =
     let e : freeHead w ≡ k = chain-first (h .free) .head in
     let same : Linked w c t (freeHead w ∷ ks) = rw e h in
     let b = descend-blank (pointOf g) (linked-capacity h) (h .spells) i found in

@@ -24,30 +24,30 @@ use Rattle.adt.proofs.LinkLaws.{brokenBy-deep, brokenBy-blank, brokenBy
 
 abbrev pub brokenInsertion : InsertionWalk → Bool
 brokenInsertion broken = true
-brokenInsertion (blankAt at) = false
+brokenInsertion (blankAt at from) = false
 
 brokenInsertion-cond : (b : Bool) (x y : InsertionWalk) → brokenInsertion (cond b x y) ≡ cond b (brokenInsertion x) (brokenInsertion y)
 brokenInsertion-cond true x y = refl
 brokenInsertion-cond false x y = refl
 
 -- n levels are left below the parent, so the link leads to the level l
-pub descendFrom-broken : (w : List ℕ) (c : ℕ) (p : List ℕ) (n l at : ℕ) (g : Region) (met : ℕ) → l + n ≡ suc levels → met ≤ c
-    → brokenInsertion (descendFrom w c p n at g met) ≡ brokenBy c met (insertionFrom w p n l at g)
+pub descendFrom-broken : (w : List ℕ) (c : ℕ) (p : List ℕ) (n l from at : ℕ) (g : Region) (met : ℕ) → l + n ≡ suc levels → met ≤ c
+    → brokenInsertion (descendFrom w c p n from at g met) ≡ brokenBy c met (insertionFrom w p n l from at g)
 unfolding descendFrom insertionFrom
-descendFrom-broken w c p zero l at g met depth few = sym (brokenBy-deep c met (record { level = l; to = getD w at 0 }) [] (omega arith))
-descendFrom-broken w c p (suc n) l at g met depth few =
+descendFrom-broken w c p zero l from at g met depth few = sym (brokenBy-deep c met (record { level = l; from = from; to = getD w at 0 }) [] (omega arith))
+descendFrom-broken w c p (suc n) l from at g met depth few =
     let k = getD w at 0 in
     let a = axisOf l in
     let s = sideOf g a (getD p a 0) in
     let level : levels - n ≡ l = omega arith in
-    let rest = descendFrom-broken w c p n (suc l) (linkPlace k s) (half s g a) (suc met) (omega arith) in
-    let here : Link = record { level = l; to = k } in
+    let rest = descendFrom-broken w c p n (suc l) k (linkPlace k s) (half s g a) (suc met) (omega arith) in
+    let here : Link = record { level = l; from = from; to = k } in
     rw (level, brokenInsertion-cond, brokenInsertion-cond, brokenBy-blank)
-    (ap (cond (eqb k 0) false) (brokenBy-next c met here (insertionFrom w p n (suc l) (linkPlace k s) (half s g a)) _ (omega arith) rest))
+    (ap (cond (eqb k 0) false) (brokenBy-next c met here (insertionFrom w p n (suc l) k (linkPlace k s) (half s g a)) _ (omega arith) rest))
 
 pub descend-broken : (w p : List ℕ) → brokenInsertion (descend w p) ≡ brokenBy (capacityOf w) 0 (insertionLinks w p)
 unfolding descend insertionLinks
-descend-broken w p = descendFrom-broken w (capacityOf w) p (suc levels) 0 rootPlace rootRegion 0 refl (omega arith)
+descend-broken w p = descendFrom-broken w (capacityOf w) p (suc levels) 0 0 rootPlace rootRegion 0 refl (omega arith)
 
 pub freeBroken-links : (w : List ℕ) → freeBroken w ≡ any (ltb (capacityOf w)) (freeLinks w)
 unfolding freeBroken freeLinks any fieldOf

@@ -11,7 +11,7 @@ pub mod PartRegion
 pub mod SearchLaws
 pub mod DescentLaws
 pub mod LinkLaws
-pub mod SearchSpots
+pub mod SearchEdges
 pub mod SearchLinks
 pub mod HitTest
 pub mod HitLaws

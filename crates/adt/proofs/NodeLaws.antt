@@ -2,10 +2,11 @@
 --   link-injective                  two links' places are equal only if cell and side are
 --   sides-apart                     the links of a cell are two
 --   Away at k, LinkOf ks at         the place is no link of the cell k; it is a link of one of the cells ks
---   link-away, root-away, other-away     places that are no link of a cell
+--   link-away, root-away, other-away     places that are no link of a cell: that of another cell's link, the root's, another cell's field
 --   Hook c at                       a place at which a cell may hang: the root's, or a link of one of the cells 1 to c
 --   hook-within, hook-header, hook-not-free     it lies in the pool, and is no other word of the header
---   field-set-hook                  a store there leaves the words of every grant
+--   hook-past, hook-away            it is no field of a cell behind the links, and none at all of a cell that it is no link of
+--   field-set-hook                  a store there leaves every field behind the links
 --   hook-withCell                   a store of a cell leaves the places that are none of its links
 -- Assumes nothing.
 use Prim.Native.Nat.{ℕ, _<_, _≤_}
@@ -14,15 +15,16 @@ use mathlib.Core.Logic.{_≢_}
 use mathlib.Core.List.{List, List·Memᴰ, Memᴰ·cast}
 use native.Mathlib.Omega.{arith}
 use lib.ListN.{length, getD, set}
+use lib.Seq.{getD-set-other}
 use Rattle.lists.proofs.DistinctLaws.{Upto}
 use Rattle.geometry.specs.declared.Side.{Side}
 use Rattle.geometry.specs.declared.Side.the-variants.{Left, Right}
 use Rattle.pool.specs.declared.Field.{Field}
-use Rattle.pool.specs.declared.Field.the-variants.{Number}
+use Rattle.pool.specs.declared.Field.the-variants as field
 use Rattle.pool.specs.Layout.{rootPlace, freePlace, headerWords, cellWords, offset, place, fieldOf}
 use Rattle.pool.specs.Capacity.{poolLength}
 use Rattle.pool.specs.Cell.{withCell}
-use Rattle.pool.proofs.LayoutLaws.{place-injective, place-past-header, place-within, field-set-other-field, field-set-header}
+use Rattle.pool.proofs.LayoutLaws.{same-offset, place-injective, place-past-header, place-within}
 use Rattle.pool.proofs.CellLaws.{field-withCell-other, header-withCell}
 use Rattle.adt.specs.Node.{linkField, linkPlace}
 
@@ -61,12 +63,12 @@ link-away k pos up h n s e =
     let same = link-injective k (h .cell) s (h .side) pos (up (h .cell) (h .member) .0) (e ∙ h .is) in
     n (Memᴰ·cast (same .0) (h .member))
 
--- the root's place is none of a cell's, and a link is none of another cell's
+-- the root's place is no link of a cell, and a field of another cell is none
 pub root-away : (k : ℕ) → Away rootPlace k
 root-away k s = omega (arith, place-past-header k (linkField s))
 
-pub other-away : (j k : ℕ) (s : Side) → 0 < j → 0 < k → ¬ (j ≡ k) → Away (linkPlace j s) k
-other-away j k s hj hk n z e = n (sym (link-injective k j z s hk hj e .0))
+pub other-away : (j k : ℕ) (f : Field) → 0 < j → 0 < k → ¬ (j ≡ k) → Away (place j f) k
+other-away j k f hj hk n z e = n (sym (place-injective k j (linkField z) f hk hj e .0))
 
 pub data Hook (c : ℕ) : ℕ → Type 0 where
   hook-root : Hook c rootPlace
@@ -84,13 +86,29 @@ hook-header i (hook-link {k = k} s pos le) h n = omega (arith, place-past-header
 pub hook-not-free : {c at : ℕ} → Hook c at → at ≢ freePlace
 hook-not-free hook e = hook-header freePlace hook (omega arith) (omega arith) (sym e)
 
-link-before-number : (s : Side) → offset (linkField s) < 2
-link-before-number Left = omega arith
-link-before-number Right = omega arith
+link-first : (s : Side) → offset (linkField s) ≤ offset field.Right
+link-first Left = omega arith
+link-first Right = omega arith
 
-pub field-set-hook : {c at : ℕ} (w : List ℕ) (k v : ℕ) (f : Field) → Hook c at → offset Number ≤ offset f → fieldOf (set w at v) k f ≡ fieldOf w k f
-field-set-hook w k v f hook-root h = field-set-header w rootPlace k f v (omega arith)
-field-set-hook w k v f (hook-link {k = j} s pos le) h = field-set-other-field w k j (linkField s) f v (omega (arith, link-before-number s))
+pub hook-past : {c at : ℕ} (k : ℕ) (f : Field) → Hook c at → offset field.Right < offset f → place k f ≢ at
+hook-past k f hook-root h = omega (arith, place-past-header k f)
+hook-past k f (hook-link {k = j} s pos le) h = λ e. omega (arith, same-offset k j f (linkField s) e, link-first s)
+
+pub hook-away : {c at : ℕ} (k : ℕ) → Hook c at → Away at k → (f : Field) → place k f ≢ at
+hook-away k hook away field.Left = away Left
+hook-away k hook away field.Right = away Right
+hook-away k hook away field.Number = hook-past k field.Number hook (omega arith)
+hook-away k hook away field.RankKind = hook-past k field.RankKind hook (omega arith)
+hook-away k hook away field.StaffFrom = hook-past k field.StaffFrom hook (omega arith)
+hook-away k hook away field.StaffTo = hook-past k field.StaffTo hook (omega arith)
+hook-away k hook away field.DoorFrom = hook-past k field.DoorFrom hook (omega arith)
+hook-away k hook away field.DoorTo = hook-past k field.DoorTo hook (omega arith)
+hook-away k hook away field.QuarterFrom = hook-past k field.QuarterFrom hook (omega arith)
+hook-away k hook away field.QuarterTo = hook-past k field.QuarterTo hook (omega arith)
+
+pub field-set-hook : {c at : ℕ} (w : List ℕ) (k v : ℕ) (f : Field) → Hook c at → offset field.Right < offset f → fieldOf (set w at v) k f ≡ fieldOf w k f
+unfolding fieldOf
+field-set-hook {at = at} w k v f hook h = getD-set-other w at (place k f) v 0 (hook-past k f hook h)
 
 -- a store of a cell leaves the places where others hang
 pub hook-withCell : {c at : ℕ} (w : List ℕ) (k : ℕ) (ws : List ℕ) → length ws ≡ cellWords → 0 < k → Hook c at → Away at k

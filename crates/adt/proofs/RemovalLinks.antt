@@ -43,11 +43,11 @@ pub follow-broken : (w : List ℕ) (c n l k at met : ℕ) → l + n ≡ levels �
     → brokenRemoval (follow w c n k at met) ≡ brokenBy c met (removalFrom w n l k)
 unfolding follow removalFrom
 follow-broken w c zero l k at met depth few =
-    let here : Link = record { level = suc l; to = leftElseRight w k } in
+    let here : Link = record { level = suc l; from = k; to = leftElseRight w k } in
     rw (next-link, brokenRemoval-cond, brokenBy-blank, brokenBy-deep c met here [] (omega arith))
 follow-broken w c (suc n) l k at met depth few =
     let next = leftElseRight w k in
-    let here : Link = record { level = suc l; to = next } in
+    let here : Link = record { level = suc l; from = k; to = next } in
     let rest = follow-broken w c n (suc l) next (nextLink w k) (suc met) (omega arith) in
     rw (next-link, brokenRemoval-cond, brokenRemoval-cond, brokenBy-blank)
     (ap (cond (eqb next 0) false) (brokenBy-next c met here (removalFrom w n (suc l) next) _ (omega arith) rest))

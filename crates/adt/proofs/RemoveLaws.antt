@@ -16,6 +16,7 @@ use Rattle.geometry.specs.declared.Side.the-variants.{Left, Right}
 use Rattle.geometry.specs.Levels.{levels}
 use Rattle.geometry.specs.Region.{rootRegion}
 use Rattle.geometry.proofs.RegionLaws.{root-shape}
+use Rattle.pool.specs.declared.Field.{Field}
 use Rattle.pool.specs.declared.Field.the-variants as field
 use Rattle.pool.specs.Layout.{capacityPlace, rootPlace, freePlace, fieldOf}
 use Rattle.pool.specs.Capacity.{poolLength}
@@ -24,13 +25,13 @@ use Rattle.pool.specs.Fresh.{freeCell}
 use Rattle.pool.proofs.LayoutLaws.{field-set-header}
 use Rattle.pool.proofs.CellLaws.{SameGrantWords, length-withCell, field-withCell-same, field-withCell-other, header-withCell, grantAt-same}
 use Rattle.pool.proofs.FreeCellLaws.{Cleared, cleared-same, cleared-withCell}
-use Rattle.adt.specs.Node.{linkPlace}
+use Rattle.adt.specs.Node.{linkField, linkPlace}
 use Rattle.adt.specs.Search.{Spot}
 use Rattle.adt.specs.Insert.{freeHead}
 use Rattle.adt.specs.Remove.{terminal, terminalFrom, freed, removed}
 use Rattle.adt.proofs.Spells.{Tree, blank, node, cellsOf, Spells, FreeChain, chain-more}
 use Rattle.adt.proofs.PartLaws.{Part, HangsAt}
-use Rattle.adt.proofs.NodeLaws.{Away, root-away, other-away, Hook, hook-root, hook-link, hook-not-free, hook-withCell}
+use Rattle.adt.proofs.NodeLaws.{Away, root-away, Hook, hook-root, hook-link, hook-not-free, hook-away, hook-withCell}
 use Rattle.adt.proofs.FrameLaws.{spells-frame, chain-frame}
 use Rattle.adt.proofs.PartRegion.{regionIn, region-shape, region-spells}
 use Rattle.adt.proofs.ExchangeLaws.{spells-cell, exchanged, outside, exchanged-cells, part-outside, part-away, part-hook, Kept, exchanged-spells}
@@ -72,10 +73,10 @@ module _ (x : List ℕ) {c k : ℕ} (long : length x ≡ poolLength c) (pos : 0 
       getD-set-other (emptied x k) freePlace link k 0 (hook-not-free other)
       ∙ hook-withCell x k (freeCell (freeHead x)) refl pos other away
 
-  -- others' grants
-  pub freed-words : (j : ℕ) → 0 < j → ¬ (j ≡ k) → SameGrantWords x (freed x k) j
+  -- others' fields
+  pub freed-field : (j : ℕ) (f : Field) → 0 < j → ¬ (j ≡ k) → fieldOf (freed x k) j f ≡ fieldOf x j f
   unfolding freed
-  freed-words j hj n f h = field-set-header (emptied x k) freePlace j f k (omega arith) ∙ field-withCell-other x k (freeCell (freeHead x)) refl j f hj pos n
+  freed-field j f hj n = field-set-header (emptied x k) freePlace j f k (omega arith) ∙ field-withCell-other x k (freeCell (freeHead x)) refl j f hj pos n
 
   -- its words but left are 0
   pub freed-cleared : Cleared (freed x k) k
@@ -147,14 +148,15 @@ module _ {w : List ℕ} {c : ℕ} {t : Tree} {ks : List ℕ} {n at k : ℕ} {l r
     outside-other : (j : ℕ) → List·Memᴰ j (outside p) → ¬ (j ≡ k)
     outside-other j m e = distinct-apart (cellsOf (node k l r)) distinct-parts k own (Memᴰ·cast (sym e) m)
 
-    -- a link, and the grant, of a cell that is not k
-    freed-link : (j : ℕ) (s : Side) → 0 < j → j ≤ c → ¬ (j ≡ k) → getD (freed x k) (linkPlace j s) 0 ≡ getD x (linkPlace j s) 0
-    freed-link j s pos le e = freed-other x long (bounds .0) (bounds .1) (hook-link s pos le) (other-away j k s pos (bounds .0) e)
+    -- a field, and the grant, of a cell that is not k
+    field-kept : (j : ℕ) (f : Field) → 0 < j → ¬ (j ≡ k) → fieldOf (freed x k) j f ≡ fieldOf x j f
+    field-kept j f pos e = freed-field x long (bounds .0) (bounds .1) j f pos e
 
     words-kept : (j : ℕ) → 0 < j → ¬ (j ≡ k) → SameGrantWords w (freed x k) j
-    words-kept j pos e f m = freed-words x long (bounds .0) (bounds .1) j pos e f m ∙ u .words j f m
+    words-kept j pos e f m = field-kept j f pos e ∙ u .words j f m
 
     kept-outside : Kept w (freed x k) c rootPlace at (outside p)
+    unfolding fieldOf
     kept-outside = record {
       distinct = distinct-right (cellsOf (node k l r)) distinct-parts;
       upto = upto-outside;
@@ -165,21 +167,22 @@ module _ {w : List ℕ} {c : ℕ} {t : Tree} {ks : List ℕ} {n at k : ℕ} {l r
           record {
             links = λ s apart.
                 let out : ¬ List·Memᴰ j (cellsOf (node k l r)) = λ i. distinct-apart (cellsOf (node k l r)) distinct-parts j i m in
-                freed-link j s (b .0) (b .1) e ∙ u .links j s (b .0) (b .1) out apart;
+                field-kept j (linkField s) (b .0) e ∙ u .others j (linkField s) (b .0) out apart;
             grant = grantAt-same w (freed x k) j (words-kept j (b .0) e);
           };
       top = λ apart. freed-other x long (bounds .0) (bounds .1) hook-root (root-away k) ∙ u .root apart;
     }
 
     spells-new : Spells (freed x k) c (suc n) (regionIn p rootRegion) (getD (freed x k) at 0) (u .tree)
+    unfolding fieldOf
     spells-new =
         rw (freed-other x long (bounds .0) (bounds .1) hook (part-apart k own))
         (spells-frame
         (λ j m.
         let b = upto-tree j (part-cell j (new-cell j m)) in
         record {
-          links = λ s. freed-link j s (b .0) (b .1) (new-other j m);
-          grant = grantAt-same x (freed x k) j (freed-words x long (bounds .0) (bounds .1) j (b .0) (new-other j m));
+          links = λ s. field-kept j (linkField s) (b .0) (new-other j m);
+          grant = grantAt-same x (freed x k) j (λ f i. field-kept j f (b .0) (new-other j m));
         })
         (u .spells))
 
@@ -190,23 +193,22 @@ module _ {w : List ℕ} {c : ℕ} {t : Tree} {ks : List ℕ} {n at k : ℕ} {l r
     free-other : (j : ℕ) → List·Memᴰ j ks → (i : ℕ) → List·Memᴰ i (cellsOf (node k l r)) → ¬ (j ≡ i)
     free-other j m i o e = distinct-apart (cellsOf t) (linked-distinct h) i (part-cell i o) (Memᴰ·cast (sym e) m)
 
-    free-link : (j : ℕ) (s : Side) → List·Memᴰ j ks → getD (freed x k) (linkPlace j s) 0 ≡ getD w (linkPlace j s) 0
-    free-link j s m =
-        let b = free-bounds j m in
-        freed-link j s (b .0) (b .1) (free-other j m k own) ∙ u .links j s (b .0) (b .1) (λ i. free-other j m j i refl) (free-apart j m s)
+    free-field : (j : ℕ) (f : Field) → List·Memᴰ j ks → fieldOf (freed x k) j f ≡ fieldOf w j f
+    free-field j f m =
+        let pos = free-bounds j m .0 in
+        field-kept j f pos (free-other j m k own) ∙ u .others j f pos (λ i. free-other j m j i refl) (hook-away j hook (free-apart j m) f)
 
     chain-new : FreeChain (freed x k) c (freeHead (freed x k)) (k ∷ ks)
+    unfolding fieldOf
     chain-new =
         rw (freed-freeHead x long (bounds .0) (bounds .1))
         (chain-more {ks = ks} (bounds .0) (bounds .1)
         (rw (freed-left x long (bounds .0) (bounds .1), u .header freePlace (omega arith) (omega arith))
-        (chain-frame (λ j m. free-link j Left m) (h .free))))
+        (chain-frame (λ j m. free-field j field.Left m) (h .free))))
 
     cleared-new : (j : ℕ) → List·Memᴰ j (k ∷ ks) → Cleared (freed x k) j
-    unfolding fieldOf
     cleared-new j (List·Memᴰ·head e) = subst (Cleared (freed x k)) (sym e) (freed-cleared x long (bounds .0) (bounds .1))
-    cleared-new j (List·Memᴰ·tail m) =
-        cleared-same w (freed x k) j (free-link j Right m) (words-kept j (free-bounds j m .0) (free-other j m k own)) (h .cleared j m)
+    cleared-new j (List·Memᴰ·tail m) = cleared-same w (freed x k) j (λ f. free-field j f m) (h .cleared j m)
 
     cells-new : Perm (k ∷ cellsOf shrunk) (cellsOf t)
     unfolding shrunk

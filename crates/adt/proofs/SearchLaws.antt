@@ -81,19 +81,19 @@ module _ (w : List ℕ) (c : ℕ) (q : Region) (passes : Grant → Bool) where
       go false = rw append-nil
 
   -- a blank link, one to a region apart from the range, and one that is gone through
-  enter-blank : (n at : ℕ) (g : Region) (met : ℕ) (hits : List ℕ) (first : Spot) → getD w at 0 ≡ 0
-      → enter w c q passes n at g (going met hits first) ≡ going met hits first
+  enter-blank : (n from at : ℕ) (g : Region) (met : ℕ) (hits : List ℕ) (first : Spot) → getD w at 0 ≡ 0
+      → enter w c q passes n from at g (going met hits first) ≡ going met hits first
   unfolding enter
-  enter-blank zero at g met hits first e = rw (eq-eqb (getD w at 0) 0 e)
-  enter-blank (suc n) at g met hits first e = rw (eq-eqb (getD w at 0) 0 e)
+  enter-blank zero from at g met hits first e = rw (eq-eqb (getD w at 0) 0 e)
+  enter-blank (suc n) from at g met hits first e = rw (eq-eqb (getD w at 0) 0 e)
 
-  module _ (n at : ℕ) (g : Region) (met : ℕ) (hits : List ℕ) (first : Spot) (k : ℕ) (is : getD w at 0 ≡ k) (pos : 0 < k) where
-    enter-apart : meets g q ≡ false → enter w c q passes (suc n) at g (going met hits first) ≡ going met hits first
+  module _ (n from at : ℕ) (g : Region) (met : ℕ) (hits : List ℕ) (first : Spot) (k : ℕ) (is : getD w at 0 ≡ k) (pos : 0 < k) where
+    enter-apart : meets g q ≡ false → enter w c q passes (suc n) from at g (going met hits first) ≡ going met hits first
     unfolding enter
     enter-apart e = rw (is, ne-eqb k 0 (omega arith), e)
 
     enter-visit : meets g q ≡ true → k ≤ c
-        → enter w c q passes (suc n) at g (going met hits first)
+        → enter w c q passes (suc n) from at g (going met hits first)
         ≡ visitBy w c q passes (enter w c q passes n) (record { level = levels - n; link = at }) k g (going met hits first)
     unfolding enter
     enter-visit e le = rw (is, ne-eqb k 0 (omega arith), e, le-leb k c le)
@@ -111,7 +111,7 @@ module _ (w : List ℕ) (c : ℕ) (q : Region) (passes : Grant → Bool) where
           absurd (true≢false (sym (common-meets g q (pointAt w (p .cell)) (cells-inside v s (p .cell) m) (narrow (p .cell) m j)) ∙ e))
 
   -- a cell and its two children, where the walks through the children are known
-  module _ (n at k : ℕ) (g : Region) (l r : Tree) (met : ℕ) (found : List Placed) (is : getD w at 0 ≡ k) (v : Shape g) (pos : 0 < k) (le : k ≤ c)
+  module _ (n from at k : ℕ) (g : Region) (l r : Tree) (met : ℕ) (found : List Placed) (is : getD w at 0 ≡ k) (v : Shape g) (pos : 0 < k) (le : k ≤ c)
       (s : Spells w c (suc n) g k (node k l r)) (narrow : Narrows w q passes (node k l r)) (lt : met < c) where
     abbrev here : Placed
     here = record { cell = k; spot = record { level = levels - n; link = at } }
@@ -130,50 +130,50 @@ module _ (w : List ℕ) (c : ℕ) (q : Region) (passes : Grant → Bool) where
         rw (filter-append (isIn w passes) (here ∷ []) (L ++ R), filter-append (isIn w passes) L R) (simp append-assoc)
 
     node-through : (L : Through w passes n (linkPlace k Left) l (suc met) first
-        (enter w c q passes n (linkPlace k Left) (half Left g (axisOf (levels - n))) (walked (suc met) first)))
+        (enter w c q passes n k (linkPlace k Left) (half Left g (axisOf (levels - n))) (walked (suc met) first)))
         → Through w passes n (linkPlace k Right) r (L .after) besides
-        (enter w c q passes n (linkPlace k Right) (half Right g (axisOf (levels - n))) (walked (L .after) besides))
-        → Through w passes (suc n) at (node k l r) met found (enter w c q passes (suc n) at g (walked met found))
+        (enter w c q passes n k (linkPlace k Right) (half Right g (axisOf (levels - n))) (walked (L .after) besides))
+        → Through w passes (suc n) at (node k l r) met found (enter w c q passes (suc n) from at g (walked met found))
     unfolding size visitBy
     node-through L R = go (meets g q) refl
       where
-        go : (b : Bool) → meets g q ≡ b → Through w passes (suc n) at (node k l r) met found (enter w c q passes (suc n) at g (walked met found))
+        go : (b : Bool) → meets g q ≡ b → Through w passes (suc n) at (node k l r) met found (enter w c q passes (suc n) from at g (walked met found))
         go true e = record {
           after = R .after;
           few = omega (arith, L .few, R .few);
           ends =
-              enter-visit n at g met (map (λ p. p .cell) found) (spotOf found) k is pos e le
+              enter-visit n from at g met (map (λ p. p .cell) found) (spotOf found) k is pos e le
               ∙ rw (meet-found (here .spot) k met found lt, L .ends) (R .ends ∙ ap (walked (R .after)) hits-node);
         }
         go false e = record {
           after = met;
           few = omega arith;
           ends =
-              enter-apart n at g met (map (λ p. p .cell) found) (spotOf found) k is pos e
+              enter-apart n from at g met (map (λ p. p .cell) found) (spotOf found) k is pos e
               ∙ rw (apart-none at v s narrow e) (rw append-nil);
         }
 
-  enter-through : {n k : ℕ} {g : Region} {t : Tree} (at met : ℕ) (found : List Placed) → getD w at 0 ≡ k → Shape g → Spells w c n g k t → Narrows w q passes t
+  enter-through : {n k : ℕ} {g : Region} {t : Tree} (from at met : ℕ) (found : List Placed) → getD w at 0 ≡ k → Shape g → Spells w c n g k t → Narrows w q passes t
       → met + size t ≤ c
-      → Through w passes n at t met found (enter w c q passes n at g (walked met found))
+      → Through w passes n at t met found (enter w c q passes n from at g (walked met found))
   unfolding size placedIn filter cellsOf
-  enter-through {n} {g = g} at met found is v spells-blank narrow fits = record {
+  enter-through {n} {g = g} from at met found is v spells-blank narrow fits = record {
     after = met;
     few = omega arith;
-    ends = enter-blank n at g met (map (λ p. p .cell) found) (spotOf found) is ∙ rw append-nil;
+    ends = enter-blank n from at g met (map (λ p. p .cell) found) (spotOf found) is ∙ rw append-nil;
   }
-  enter-through at met found is v (spells-node {n = n} {g = g} {k = k} {l = l} {r = r} pos le i x y) narrow fits =
+  enter-through from at met found is v (spells-node {n = n} {g = g} {k = k} {l = l} {r = r} pos le i x y) narrow fits =
       let a = axisOf (levels - n) in
       let lt = axis-lt (levels - n) in
       let s : Spells w c (suc n) g k (node k l r) = spells-node pos le i x y in
       let few : met < c = omega arith in
       let left : Narrows w q passes l = λ j m. narrow j (List·Memᴰ·tail (Memᴰ·append-left (cellsOf r) m)) in
       let right : Narrows w q passes r = λ j m. narrow j (List·Memᴰ·tail (Memᴰ·append-right (cellsOf l) m)) in
-      let before = first n at k g l r met found is v pos le s narrow few in
-      let L = enter-through (linkPlace k Left) (suc met) before refl (half-shape Left g a v lt) x left (omega arith) in
-      let both = besides n at k g l r met found is v pos le s narrow few in
-      let R = enter-through (linkPlace k Right) (L .after) both refl (half-shape Right g a v lt) y right (omega (arith, L .few)) in
-      node-through n at k g l r met found is v pos le s narrow few L R
+      let before = first n from at k g l r met found is v pos le s narrow few in
+      let L = enter-through k (linkPlace k Left) (suc met) before refl (half-shape Left g a v lt) x left (omega arith) in
+      let both = besides n from at k g l r met found is v pos le s narrow few in
+      let R = enter-through k (linkPlace k Right) (L .after) both refl (half-shape Right g a v lt) y right (omega (arith, L .few)) in
+      node-through n from at k g l r met found is v pos le s narrow few L R
 
 -- the tree's cells whose grants pass, in the tree's order
 abbrev pub hitsIn : List ℕ → (Grant → Bool) → Tree → List ℕ
@@ -195,7 +195,7 @@ search-finds {w} {c} {t} q passes s d e narrow = record {
   first = spotOf hits;
   few = omega (arith, walk .few);
   found =
-      ap (λ (k : ℕ). enter w k q passes (suc levels) rootPlace rootRegion (going 0 [] nowhere)) e
+      ap (λ (k : ℕ). enter w k q passes (suc levels) 0 rootPlace rootRegion (going 0 [] nowhere)) e
       ∙ walk .ends
       ∙ ap (λ (ks : List ℕ). going (walk .after) ks (spotOf hits)) same;
   hangs = λ k ks i. go k ks hits (λ p m. filter-mem (isIn w passes) (placedIn (suc levels) rootPlace t) p m .0) (same ∙ i);
@@ -204,8 +204,8 @@ search-finds {w} {c} {t} q passes s d e narrow = record {
     hits : List Placed
     hits = hitsAt w passes (suc levels) rootPlace t
 
-    walk : Through w passes (suc levels) rootPlace t 0 [] (enter w c q passes (suc levels) rootPlace rootRegion (going 0 [] nowhere))
-    walk = enter-through w c q passes rootPlace 0 [] refl root-shape s narrow (omega (arith, size-few s d))
+    walk : Through w passes (suc levels) rootPlace t 0 [] (enter w c q passes (suc levels) 0 rootPlace rootRegion (going 0 [] nowhere))
+    walk = enter-through w c q passes 0 rootPlace 0 [] refl root-shape s narrow (omega (arith, size-few s d))
 
     same : map (λ p. p .cell) hits ≡ hitsIn w passes t
     same =

@@ -1,5 +1,5 @@
 -- The search that stops and document 01's links are one search: it is broken exactly where they are, and else its hits are theirs.
---   passAll-closed       a walk through a list of spots, from any state that goes on
+--   passAll-closed       a walk through a list of edges, from any state that goes on
 --   enter-closed         the walk from any link on, from any such state
 --   search-broken-iff    the search is broken exactly if its links are
 --   FirstHit, Searched   what a search that goes to its end found: of its first hit, and of all
@@ -26,12 +26,12 @@ use Rattle.pool.specs.Capacity.{capacityOf}
 use Rattle.adt.specs.Search.{Spot, nowhere, Search, broken, going, firstSpot, meet, enter, searchBy}
 use Rattle.adt.specs.Links.{Link, brokenBy, searchFrom, searchLinks, isHit, hitsAmong}
 use Rattle.adt.proofs.LinkLaws.{brokenBy-none, brokenBy-high, brokenBy-deep, brokenBy-full, brokenBy-more, Within, unbroken-few, unbroken-first}
-use Rattle.adt.proofs.SearchSpots.{linkAt, linksAt, spotsFrom, searchFrom-spots, pass, passAll, passAll-broken, pass-deep, enter-passes}
+use Rattle.adt.proofs.SearchEdges.{Edge, linkAt, linksAt, edgesFrom, searchFrom-edges, pass, passAll, passAll-broken, pass-deep, enter-passes}
 
--- the first element of a list, or the one given where it has none
-abbrev headOr : {A : Type 0} → A → List A → A
-headOr x [] = x
-headOr x (y ∷ ys) = y
+-- the spot that the first edge of a list leads to, or the one given where it has none
+abbrev spotOr : Spot → List Edge → Spot
+spotOr s [] = s
+spotOr s (e ∷ es) = e .spot
 
 cond-same : {A : Type 0} (b : Bool) (x : A) → cond b x x ≡ x
 cond-same true x = refl
@@ -45,15 +45,15 @@ firstSpot-hit : (hits : List ℕ) (k : ℕ) (before here : Spot) → firstSpot (
 firstSpot-hit [] k before here = refl
 firstSpot-hit (h ∷ hits) k before here = refl
 
-abbrev isHitAt : List ℕ → (Grant → Bool) → Spot → Bool
-isHitAt w passes here = isHit w passes (linkAt w here)
+abbrev isHitAt : List ℕ → (Grant → Bool) → Edge → Bool
+isHitAt w passes e = isHit w passes (linkAt w e)
 
 module _ (w : List ℕ) (c : ℕ) (q : Region) (passes : Grant → Bool) where
-  -- the state after a walk that goes on through all the spots
-  abbrev reached : ℕ → List ℕ → Spot → List Spot → Search
-  reached met hits first spots =
-      let spot = firstSpot hits first (headOr first (filter (isHitAt w passes) spots)) in
-      going (met + length (linksAt w spots)) (hits ++ hitsAmong w passes (linksAt w spots)) spot
+  -- the state after a walk that goes on through all the edges
+  abbrev reached : ℕ → List ℕ → Spot → List Edge → Search
+  reached met hits first es =
+      let spot = firstSpot hits first (spotOr first (filter (isHitAt w passes) es)) in
+      going (met + length (linksAt w es)) (hits ++ hitsAmong w passes (linksAt w es)) spot
 
   reached-none : (met : ℕ) (hits : List ℕ) (first : Spot) → reached met hits first [] ≡ going met hits first
   unfolding hitsAmong filter
@@ -61,87 +61,87 @@ module _ (w : List ℕ) (c : ℕ) (q : Region) (passes : Grant → Bool) where
       let same : met + 0 ≡ met = omega arith in
       rw (same, append-nil, firstSpot-same)
 
-  -- the link at a spot that no cause of fault 9 stands against
-  pass-on : (here : Spot) (met : ℕ) (hits : List ℕ) (first : Spot) → getD w (here .link) 0 ≤ c → here .level ≤ levels → met < c
-      → pass w c q passes here (going met hits first)
-      ≡ cond (isHitAt w passes here) (going (suc met) (hits ++ (getD w (here .link) 0 ∷ [])) (firstSpot hits first here)) (going (suc met) hits first)
+  -- an edge that no cause of fault 9 stands against
+  pass-on : (e : Edge) (met : ℕ) (hits : List ℕ) (first : Spot) → getD w (e .spot .link) 0 ≤ c → e .spot .level ≤ levels → met < c
+      → pass w c q passes e (going met hits first)
+      ≡ cond (isHitAt w passes e) (going (suc met) (hits ++ (getD w (e .spot .link) 0 ∷ [])) (firstSpot hits first (e .spot))) (going (suc met) hits first)
   unfolding pass meet
-  pass-on here met hits first low above room =
-      rw (le-leb (getD w (here .link) 0) c low, le-leb (here .level) levels above, lt-ltb met c room)
+  pass-on e met hits first low above room =
+      rw (le-leb (getD w (e .spot .link) 0) c low, le-leb (e .spot .level) levels above, lt-ltb met c room)
 
-  pass-high : (here : Spot) (met : ℕ) (hits : List ℕ) (first : Spot) → c < getD w (here .link) 0 → pass w c q passes here (going met hits first) ≡ broken
+  pass-high : (e : Edge) (met : ℕ) (hits : List ℕ) (first : Spot) → c < getD w (e .spot .link) 0 → pass w c q passes e (going met hits first) ≡ broken
   unfolding pass
-  pass-high here met hits first high = rw (lt-leb (getD w (here .link) 0) c high)
+  pass-high e met hits first high = rw (lt-leb (getD w (e .spot .link) 0) c high)
 
-  pass-full : (here : Spot) (met : ℕ) (hits : List ℕ) (first : Spot) → c ≤ met → pass w c q passes here (going met hits first) ≡ broken
+  pass-full : (e : Edge) (met : ℕ) (hits : List ℕ) (first : Spot) → c ≤ met → pass w c q passes e (going met hits first) ≡ broken
   unfolding pass meet
-  pass-full here met hits first full = rw (le-ltb met c full) (cond-same (leb (getD w (here .link) 0) c && leb (here .level) levels) broken)
+  pass-full e met hits first full = rw (le-ltb met c full) (cond-same (leb (getD w (e .spot .link) 0) c && leb (e .spot .level) levels) broken)
 
-  -- the walk through a list of spots is as its links say
-  abbrev Closed : List Spot → ℕ → List ℕ → Spot → Type 0
-  Closed spots met hits first =
-      passAll w c q passes spots (going met hits first) ≡ cond (brokenBy c met (linksAt w spots)) broken (reached met hits first spots)
+  -- the walk through a list of edges is as its links say
+  abbrev Closed : List Edge → ℕ → List ℕ → Spot → Type 0
+  Closed es met hits first =
+      passAll w c q passes es (going met hits first) ≡ cond (brokenBy c met (linksAt w es)) broken (reached met hits first es)
 
-  -- one spot more
-  module _ (here : Spot) (spots : List Spot) (met : ℕ) (hits : List ℕ) (first : Spot) where
-    shift : suc met + length (linksAt w spots) ≡ met + suc (length (linksAt w spots))
+  -- one edge more
+  module _ (e : Edge) (es : List Edge) (met : ℕ) (hits : List ℕ) (first : Spot) where
+    shift : suc met + length (linksAt w es) ≡ met + suc (length (linksAt w es))
     shift = omega arith
 
-    reached-hit : isHitAt w passes here ≡ true
-        → reached (suc met) (hits ++ (getD w (here .link) 0 ∷ [])) (firstSpot hits first here) spots ≡ reached met hits first (here ∷ spots)
+    reached-hit : isHitAt w passes e ≡ true
+        → reached (suc met) (hits ++ (getD w (e .spot .link) 0 ∷ [])) (firstSpot hits first (e .spot)) es ≡ reached met hits first (e ∷ es)
     unfolding hitsAmong filter
-    reached-hit e = rw (e, shift, append-assoc, firstSpot-hit)
+    reached-hit hit = rw (hit, shift, append-assoc, firstSpot-hit)
 
-    reached-miss : isHitAt w passes here ≡ false → reached (suc met) hits first spots ≡ reached met hits first (here ∷ spots)
+    reached-miss : isHitAt w passes e ≡ false → reached (suc met) hits first es ≡ reached met hits first (e ∷ es)
     unfolding hitsAmong filter
-    reached-miss e = rw (e, shift)
+    reached-miss miss = rw (miss, shift)
 
-    closed-stops : pass w c q passes here (going met hits first) ≡ broken → brokenBy c met (linksAt w (here ∷ spots)) ≡ true
-        → Closed (here ∷ spots) met hits first
+    closed-stops : pass w c q passes e (going met hits first) ≡ broken → brokenBy c met (linksAt w (e ∷ es)) ≡ true
+        → Closed (e ∷ es) met hits first
     unfolding passAll
-    closed-stops p e = rw e (ap (passAll w c q passes spots) p ∙ passAll-broken w c q passes spots)
+    closed-stops p stops = rw stops (ap (passAll w c q passes es) p ∙ passAll-broken w c q passes es)
 
-    closed-goes : getD w (here .link) 0 ≤ c → here .level ≤ levels → met < c → ((hs : List ℕ) (f : Spot) → Closed spots (suc met) hs f)
-        → Closed (here ∷ spots) met hits first
+    closed-goes : getD w (e .spot .link) 0 ≤ c → e .spot .level ≤ levels → met < c → ((hs : List ℕ) (f : Spot) → Closed es (suc met) hs f)
+        → Closed (e ∷ es) met hits first
     unfolding passAll
     closed-goes low above room rest =
-        rw (brokenBy-more c met (linkAt w here) (linksAt w spots) low above)
-        (ap (passAll w c q passes spots) (pass-on here met hits first low above room) ∙ go (isHitAt w passes here) refl)
+        rw (brokenBy-more c met (linkAt w e) (linksAt w es) low above)
+        (ap (passAll w c q passes es) (pass-on e met hits first low above room) ∙ go (isHitAt w passes e) refl)
       where
-        go : (b : Bool) → isHitAt w passes here ≡ b
-            → let found = going (suc met) (hits ++ (getD w (here .link) 0 ∷ [])) (firstSpot hits first here) in
-            passAll w c q passes spots (cond b found (going (suc met) hits first))
-            ≡ cond (brokenBy c (suc met) (linksAt w spots)) broken (reached met hits first (here ∷ spots))
-        go true e = rw (← reached-hit e) (rest (hits ++ (getD w (here .link) 0 ∷ [])) (firstSpot hits first here))
-        go false e = rw (← reached-miss e) (rest hits first)
+        go : (b : Bool) → isHitAt w passes e ≡ b
+            → let found = going (suc met) (hits ++ (getD w (e .spot .link) 0 ∷ [])) (firstSpot hits first (e .spot)) in
+            passAll w c q passes es (cond b found (going (suc met) hits first))
+            ≡ cond (brokenBy c (suc met) (linksAt w es)) broken (reached met hits first (e ∷ es))
+        go true hit = rw (← reached-hit hit) (rest (hits ++ (getD w (e .spot .link) 0 ∷ [])) (firstSpot hits first (e .spot)))
+        go false miss = rw (← reached-miss miss) (rest hits first)
 
-    closed-more : ((hs : List ℕ) (f : Spot) → suc met ≤ c → Closed spots (suc met) hs f) → Closed (here ∷ spots) met hits first
-    closed-more rest = go (decLe (getD w (here .link) 0) c) (decLe (here .level) levels) (decLt met c)
+    closed-more : ((hs : List ℕ) (f : Spot) → suc met ≤ c → Closed es (suc met) hs f) → Closed (e ∷ es) met hits first
+    closed-more rest = go (decLe (getD w (e .spot .link) 0) c) (decLe (e .spot .level) levels) (decLt met c)
       where
-        go : Dec (getD w (here .link) 0 ≤ c) → Dec (here .level ≤ levels) → Dec (met < c) → Closed (here ∷ spots) met hits first
+        go : Dec (getD w (e .spot .link) 0 ≤ c) → Dec (e .spot .level ≤ levels) → Dec (met < c) → Closed (e ∷ es) met hits first
         go (no high) above room =
-            closed-stops (pass-high here met hits first (omega arith)) (brokenBy-high c met (linkAt w here) (linksAt w spots) (omega arith))
+            closed-stops (pass-high e met hits first (omega arith)) (brokenBy-high c met (linkAt w e) (linksAt w es) (omega arith))
         go (yes low) (no deep) room =
-            closed-stops (pass-deep w c q passes here (going met hits first) (omega arith))
-            (brokenBy-deep c met (linkAt w here) (linksAt w spots) (omega arith))
+            closed-stops (pass-deep w c q passes e (going met hits first) (omega arith))
+            (brokenBy-deep c met (linkAt w e) (linksAt w es) (omega arith))
         go (yes low) (yes above) (no full) =
-            closed-stops (pass-full here met hits first (omega arith)) (brokenBy-full c met (linkAt w here) (linksAt w spots) (omega arith))
+            closed-stops (pass-full e met hits first (omega arith)) (brokenBy-full c met (linkAt w e) (linksAt w es) (omega arith))
         go (yes low) (yes above) (yes room) = closed-goes low above room (λ hs f. rest hs f room)
 
-  pub passAll-closed : (spots : List Spot) (met : ℕ) (hits : List ℕ) (first : Spot) → met ≤ c → Closed spots met hits first
+  pub passAll-closed : (es : List Edge) (met : ℕ) (hits : List ℕ) (first : Spot) → met ≤ c → Closed es met hits first
   unfolding passAll
   passAll-closed [] met hits first few = sym (rw (brokenBy-none c met few) (reached-none met hits first))
-  passAll-closed (here ∷ spots) met hits first few = closed-more here spots met hits first (passAll-closed spots (suc met))
+  passAll-closed (e ∷ es) met hits first few = closed-more e es met hits first (passAll-closed es (suc met))
 
   -- from any link on, n levels left below the parent: the first hit hangs where it did, else at the spot of the first link that is a hit
-  pub enter-closed : (n l at : ℕ) (g : Region) (met : ℕ) (hits : List ℕ) (first : Spot) → l + n ≡ suc levels → met ≤ c
-      → let links = searchFrom w q n l at g in
-      let spot = firstSpot hits first (headOr first (filter (isHitAt w passes) (spotsFrom w q n l at g))) in
-      enter w c q passes n at g (going met hits first)
+  pub enter-closed : (n l from at : ℕ) (g : Region) (met : ℕ) (hits : List ℕ) (first : Spot) → l + n ≡ suc levels → met ≤ c
+      → let links = searchFrom w q n l from at g in
+      let spot = firstSpot hits first (spotOr first (filter (isHitAt w passes) (edgesFrom w q n l from at g))) in
+      enter w c q passes n from at g (going met hits first)
       ≡ cond (brokenBy c met links) broken (going (met + length links) (hits ++ hitsAmong w passes links) spot)
-  enter-closed n l at g met hits first depth few =
-      rw (searchFrom-spots w q n l at g)
-      (enter-passes w c q passes n l at g (going met hits first) depth ∙ passAll-closed (spotsFrom w q n l at g) met hits first few)
+  enter-closed n l from at g met hits first depth few =
+      rw (searchFrom-edges w q n l from at g)
+      (enter-passes w c q passes n l from at g (going met hits first) depth ∙ passAll-closed (edgesFrom w q n l from at g) met hits first few)
 
 filter-map : {A B : Type 0} (f : A → B) (t : B → Bool) (xs : List A) → filter t (map f xs) ≡ map f (filter (λ x. t (f x)) xs)
 unfolding filter
@@ -179,23 +179,23 @@ pub record Searched (w : List ℕ) (q : Region) (passes : Grant → Bool) (met :
 
 -- the whole search
 module _ (w : List ℕ) (q : Region) (passes : Grant → Bool) where
-  abbrev searchSpots : List Spot
-  searchSpots = spotsFrom w q (suc levels) 0 rootPlace rootRegion
+  abbrev searchEdges : List Edge
+  searchEdges = edgesFrom w q (suc levels) 0 0 rootPlace rootRegion
 
-  searchLinks-spots : searchLinks w q ≡ linksAt w searchSpots
+  searchLinks-edges : searchLinks w q ≡ linksAt w searchEdges
   unfolding searchLinks
-  searchLinks-spots = searchFrom-spots w q (suc levels) 0 rootPlace rootRegion
+  searchLinks-edges = searchFrom-edges w q (suc levels) 0 0 rootPlace rootRegion
 
   -- the state of a search that goes to its end
   abbrev wholeSearch : Search
   wholeSearch =
-      going (length (searchLinks w q)) (hitsAmong w passes (searchLinks w q)) (headOr nowhere (filter (isHitAt w passes) searchSpots))
+      going (length (searchLinks w q)) (hitsAmong w passes (searchLinks w q)) (spotOr nowhere (filter (isHitAt w passes) searchEdges))
 
   search-closed : searchBy w q passes ≡ cond (brokenBy (capacityOf w) 0 (searchLinks w q)) broken wholeSearch
   unfolding searchBy searchLinks
   search-closed =
-      rw (← zero-add (length (searchFrom w q (suc levels) 0 rootPlace rootRegion)))
-      (enter-closed w (capacityOf w) q passes (suc levels) 0 rootPlace rootRegion 0 [] nowhere refl (omega arith))
+      rw (← zero-add (length (searchFrom w q (suc levels) 0 0 rootPlace rootRegion)))
+      (enter-closed w (capacityOf w) q passes (suc levels) 0 0 rootPlace rootRegion 0 [] nowhere refl (omega arith))
 
   pub search-broken-iff : (searchBy w q passes ≡ broken) ↔ (brokenBy (capacityOf w) 0 (searchLinks w q) ≡ true)
   search-broken-iff = go (brokenBy (capacityOf w) 0 (searchLinks w q)) search-closed
@@ -207,11 +207,11 @@ module _ (w : List ℕ) (q : Region) (passes : Grant → Bool) where
   pub search-going : (met : ℕ) (hits : List ℕ) (first : Spot) → searchBy w q passes ≡ going met hits first → Searched w q passes met hits first
   search-going met hits first e = go (brokenBy (capacityOf w) 0 (searchLinks w q)) refl search-closed
     where
-      head-hit : (spots : List Spot) (f : Link) (fs : List Link) → first ≡ headOr nowhere spots → linksAt w spots ≡ f ∷ fs
+      head-hit : (es : List Edge) (f : Link) (fs : List Link) → first ≡ spotOr nowhere es → linksAt w es ≡ f ∷ fs
           → (first .level ≡ f .level) × (getD w (first .link) 0 ≡ f .to)
       head-hit [] f fs s k = absurd (nil≢cons k)
-      head-hit (here ∷ spots) f fs s k =
-          let same : linkAt w here ≡ f = head-eq-of-cons-eq k in
+      head-hit (edge ∷ es) f fs s k =
+          let same : linkAt w edge ≡ f = head-eq-of-cons-eq k in
           (rw s (ap (λ (x : Link). x .level) same), rw s (ap (λ (x : Link). x .to) same))
 
       go : (b : Bool) → brokenBy (capacityOf w) 0 (searchLinks w q) ≡ b → searchBy w q passes ≡ cond b broken wholeSearch → Searched w q passes met hits first
@@ -223,8 +223,7 @@ module _ (w : List ℕ) (q : Region) (passes : Grant → Bool) where
             count = cc;
             found = found;
             first-hit = λ f fs kept.
-                let spots = filter (isHitAt w passes) searchSpots in
-                let hangs = head-hit spots f fs (cc) (sym (filter-map (linkAt w) (isHit w passes) searchSpots) ∙ (rw searchLinks-spots at kept)) in
+                let hangs = head-hit (filter (isHitAt w passes) searchEdges) f fs (cc) (sym (filter-map (linkAt w) (isHit w passes) searchEdges) ∙ (rw searchLinks-edges at kept)) in
                 record {
                   level = hangs .0;
                   holds = hangs .1;

@@ -1,8 +1,8 @@
 -- The start of a search, at the root, from memory in which nothing is met or found.
 --   fresh-counted, fresh-state                            what that memory stands for
---   search-blank, search-apart, search-entered            the tests at the root
+--   search-blank, search-apart, search-above, search-visited    the tests at the root
 -- Assumes nothing.
-use Prim.Native.Nat.{ℕ, suc}
+use Prim.Native.Nat.{ℕ, suc, _<_, _≤_}
 use mathlib.Core.Path.{_≡_, refl, sym, subst, _∙_}
 use mathlib.Core.Bool.{Bool, true, false}
 use mathlib.Core.List.{List, []}
@@ -14,8 +14,8 @@ use Rattle.geometry.specs.Region.{Region, rootRegion, meets}
 use Rattle.pool.specs.Layout.{rootPlace}
 use Rattle.pool.proofs.CapacityLaws.{capacityOf-poolLength}
 use Rattle.adt.specs.Search.{nowhere, going, enter, searchBy}
-use Rattle.adt.specs.SearchMemory.{searchIn, Counted, Fresh, Encodes}
-use Rattle.adt.proofs.EnterSteps.{enter-blank, enter-apart}
+use Rattle.adt.specs.SearchMemory.{searchIn, Counted, Fresh, Encodes, visited}
+use Rattle.adt.proofs.EnterSteps.{enter-blank, enter-apart, enter-above, enter-visits}
 
 module _ {w : List ℕ} {c : ℕ} {h t : List ℕ} (fresh : Fresh w c h t) where
   pub fresh-counted : Counted c h t
@@ -26,14 +26,14 @@ module _ {w : List ℕ} {c : ℕ} {h t : List ℕ} (fresh : Fresh w c h t) where
   fresh-state = rw (fresh .unused)
 
 module _ {w : List ℕ} {c : ℕ} {h t : List ℕ} (q : Region) (passes : Grant → Bool) (fresh : Fresh w c h t) where
-  search-enters : searchBy w q passes ≡ enter w c q passes (suc levels) rootPlace rootRegion (going 0 [] nowhere)
+  search-enters : searchBy w q passes ≡ enter w c q passes (suc levels) 0 rootPlace rootRegion (going 0 [] nowhere)
   unfolding searchBy
   search-enters = rw (capacityOf-poolLength w c (fresh .long))
 
   module _ (k : ℕ) (e : k ≡ getD w rootPlace 0) where
     pub search-blank : k ≡ 0 → Encodes c true h t (searchBy w q passes)
     search-blank z =
-        let blank = enter-blank w c q passes (suc levels) rootPlace k rootRegion e 0 [] nowhere z in
+        let blank = enter-blank w c q passes (suc levels) 0 rootPlace k rootRegion e 0 [] nowhere z in
         record { counted = fresh-counted fresh; state = fresh-state fresh ∙ blank ∙ sym search-enters }
 
     module _ (nz : ¬ (k ≡ 0)) where
@@ -43,9 +43,22 @@ module _ {w : List ℕ} {c : ℕ} {h t : List ℕ} (q : Region) (passes : Grant 
       pub search-apart : meets rootRegion q ≡ false → Encodes c true h t (searchBy w q passes)
       search-apart m = record {
         counted = fresh-counted fresh;
-        state = fresh-state fresh ∙ enter-apart w c q passes (suc levels) rootPlace k rootRegion e 0 [] nowhere nz deep m ∙ sym search-enters;
+        state = fresh-state fresh ∙ enter-apart w c q passes (suc levels) 0 rootPlace k rootRegion e 0 [] nowhere nz deep m ∙ sym search-enters;
       }
 
-  pub search-entered : {g : Region} → g ≡ rootRegion → {r : Bool} {h′ t′ : List ℕ}
-      → Encodes c r h′ t′ (enter w c q passes (suc levels) rootPlace g (searchIn true h t)) → Encodes c r h′ t′ (searchBy w q passes)
-  search-entered i d = record { counted = d .counted; state = d .state ∙ rw (i, fresh-state fresh) (sym search-enters) }
+      module _ (m : meets rootRegion q ≡ true) where
+        pub search-above : c < k → Encodes c false h t (searchBy w q passes)
+        search-above past = record {
+          counted = fresh-counted fresh;
+          state = enter-above w c q passes (suc levels) 0 rootPlace k rootRegion e 0 [] nowhere nz deep m past ∙ sym search-enters;
+        }
+
+        pub search-visited : k ≤ c → {g : Region} → g ≡ rootRegion → {r : Bool} {h′ t′ : List ℕ}
+            → Encodes c r h′ t′ (visited w c q passes h t k levels rootPlace g) → Encodes c r h′ t′ (searchBy w q passes)
+        search-visited few i v = record {
+          counted = v .counted;
+          state =
+              v .state
+              ∙ rw (fresh-state fresh) (enter-visits w c q passes (suc levels) 0 rootPlace k rootRegion e 0 [] nowhere nz deep i m few)
+              ∙ sym search-enters;
+        }

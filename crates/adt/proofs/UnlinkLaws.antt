@@ -18,15 +18,16 @@ use Rattle.geometry.specs.declared.Side.{Side}
 use Rattle.geometry.specs.declared.Side.the-variants.{Left, Right}
 use Rattle.geometry.specs.Region.{Region}
 use Rattle.geometry.proofs.RegionLaws.{Shape}
-use Rattle.pool.specs.Layout.{rootPlace, headerWords}
+use Rattle.pool.specs.declared.Field.{Field}
+use Rattle.pool.specs.Layout.{rootPlace, headerWords, place, fieldOf}
 use Rattle.pool.specs.Capacity.{poolLength}
-use Rattle.pool.proofs.CellLaws.{SameGrantWords, grantAt-same}
-use Rattle.adt.specs.Node.{linkPlace}
+use Rattle.pool.proofs.CellLaws.{grant-past, SameGrantWords, grantAt-same}
+use Rattle.adt.specs.Node.{linkField, linkPlace}
 use Rattle.adt.specs.Remove.{replaced, unlinked}
 use Rattle.adt.proofs.Spells.{Tree, blank, node, cellsOf, Spells, spells-blank}
 use Rattle.adt.proofs.TreeLaws.{child, cells-upto, cells-inside}
 use Rattle.adt.proofs.PartLaws.{Part, part-here, part-child}
-use Rattle.adt.proofs.NodeLaws.{sides-apart, Away, root-away, other-away, link-away, Hook, hook-link, hook-within, hook-header, field-set-hook}
+use Rattle.adt.proofs.NodeLaws.{sides-apart, Away, root-away, other-away, link-away, Hook, hook-link, hook-within, hook-header, hook-away, field-set-hook}
 use Rattle.adt.proofs.FrameLaws.{SameNode, spells-frame, inside-same}
 use Rattle.adt.proofs.ExchangeLaws.{other, withSon, withSon-cells, spells-withSon, exchanged, outside, exchanged-cells}
 use Rattle.adt.proofs.ExchangeLaws.{part-child-link, spells-parts, part-outside, part-hook, Kept, exchanged-spells}
@@ -39,11 +40,11 @@ pub record Unlinked (w x : List ℕ) (c n at : ℕ) (g : Region) (k : ℕ) (js :
   pub long : length x ≡ length w
   pub header : (i : ℕ) → i < headerWords → i ≢ rootPlace → getD x i 0 ≡ getD w i 0
   pub root : rootPlace ≢ at → getD x rootPlace 0 ≡ getD w rootPlace 0
-  pub links : (j : ℕ) (s : Side) → 0 < j → j ≤ c → ¬ List·Memᴰ j js → linkPlace j s ≢ at → getD x (linkPlace j s) 0 ≡ getD w (linkPlace j s) 0
+  pub others : (j : ℕ) (f : Field) → 0 < j → ¬ List·Memᴰ j js → place j f ≢ at → fieldOf x j f ≡ fieldOf w j f
 
 -- a store at a place where a cell may hang leaves the grants' words and the header but the root
 words-set : {c at : ℕ} (w : List ℕ) (v : ℕ) → Hook c at → (j : ℕ) → SameGrantWords w (set w at v) j
-words-set w v hook j f h = field-set-hook w j v f hook h
+words-set w v hook j f h = field-set-hook w j v f hook (grant-past f h)
 
 header-set : {c at : ℕ} (w : List ℕ) (v : ℕ) → Hook c at → (i : ℕ) → i < headerWords → i ≢ rootPlace → getD (set w at v) i 0 ≡ getD w i 0
 header-set {at = at} w v hook i h n = getD-set-other w at i v 0 (hook-header i hook h n)
@@ -51,7 +52,7 @@ header-set {at = at} w v hook i h n = getD-set-other w at i v 0 (hook-header i h
 -- the cell k with no children, at the place `at`
 pub unlinked-leaf : {w : List ℕ} {c at : ℕ} (n k : ℕ) (g : Region) → length w ≡ poolLength c → Hook c at
     → Unlinked w (set w at 0) c n at g k (cellsOf (node k blank blank))
-unfolding cellsOf
+unfolding cellsOf fieldOf
 unlinked-leaf {w} {c} {at} n k g long hook = record {
   tree = blank;
   cells = perm-refl (k ∷ []);
@@ -60,7 +61,7 @@ unlinked-leaf {w} {c} {at} n k g long hook = record {
   long = length-set w at 0;
   header = header-set w 0 hook;
   root = λ n. getD-set-other w at rootPlace 0 0 n;
-  links = λ j s pos le out n. getD-set-other w at (linkPlace j s) 0 0 n;
+  others = λ j f pos out n. getD-set-other w at (place j f) 0 0 n;
 }
 
 -- the words with the terminal cell cut from its parent, and then with the links of k in it
@@ -199,7 +200,7 @@ module _ {w : List ℕ} {c n at m leafAt : ℕ} {g : Region} {leaf : ℕ} (s : S
   same-moved j i = record {
     links = λ z.
         replaced-other w k long hook leafHook (leaf-bounds .0) (leaf-bounds .1) (linkPlace j z) (away j (stays j i) z)
-        (other-away j leaf z (upto-stays j i .0) (leaf-bounds .0) (not-leaf j i));
+        (other-away j leaf (linkField z) (upto-stays j i .0) (leaf-bounds .0) (not-leaf j i));
     grant =
         grantAt-same w moved j (replaced-words w k long hook leafHook (leaf-bounds .0) (leaf-bounds .1) j)
         ∙ sym (grantAt-same w (cutOff w leafAt) j (words-set w 0 leafHook j));
@@ -215,13 +216,14 @@ module _ {w : List ℕ} {c n at m leafAt : ℕ} {g : Region} {leaf : ℕ} (s : S
       (rw (links s) (spells-frame (λ j i. same-moved j (Memᴰ·append-left (k ∷ beside) (perm-mem (perm-sym part-rest) i))) (parts .0)))
       (rw (links (other s)) (spells-frame (λ j i. same-moved j (Memᴰ·append-right (outside q) (List·Memᴰ·tail i))) (parts .1)))
 
-  -- the links of the cells outside of the part
-  links-moved : (j : ℕ) (z : Side) → 0 < j → j ≤ c → ¬ List·Memᴰ j (cellsOf (node k l r)) → linkPlace j z ≢ at
-      → getD moved (linkPlace j z) 0 ≡ getD w (linkPlace j z) 0
-  links-moved j z pos le out apart =
-      replaced-other w k long hook leafHook (leaf-bounds .0) (leaf-bounds .1) (linkPlace j z) apart
-      (other-away j leaf z pos (leaf-bounds .0) (λ e. out (Memᴰ·cast e leaf-in)))
-      ∙ getD-set-other w leafAt (linkPlace j z) 0 0 (link-away j pos upto-stays (part-child-link s k l r q) (λ i. out (stays j i)) z)
+  -- the fields of the cells outside of the part
+  others-moved : (j : ℕ) (f : Field) → 0 < j → ¬ List·Memᴰ j (cellsOf (node k l r)) → place j f ≢ at → fieldOf moved j f ≡ fieldOf w j f
+  unfolding fieldOf
+  others-moved j f pos out apart =
+      let away = link-away j pos upto-stays (part-child-link s k l r q) (λ i. out (stays j i)) in
+      replaced-other w k long hook leafHook (leaf-bounds .0) (leaf-bounds .1) (place j f) apart
+      (other-away j leaf f pos (leaf-bounds .0) (λ e. out (Memᴰ·cast e leaf-in)))
+      ∙ getD-set-other w leafAt (place j f) 0 0 (hook-away j leafHook away f)
 
   root-moved : rootPlace ≢ at → getD moved rootPlace 0 ≡ getD w rootPlace 0
   root-moved apart =
@@ -249,7 +251,7 @@ module _ {w : List ℕ} {c n at m leafAt : ℕ} {g : Region} {leaf : ℕ} (s : S
     long = replaced-long w k long hook leafHook (leaf-bounds .0) (leaf-bounds .1);
     header = replaced-header w k long hook leafHook (leaf-bounds .0) (leaf-bounds .1);
     root = root-moved;
-    links = links-moved;
+    others = others-moved;
   }
 
   -- the terminal cell is another

@@ -32,21 +32,22 @@ module _ (w : List ℕ) (c : ℕ) (long : length w ≡ poolLength c) where
   link-within : (k : ℕ) (s : Side) → eqb k 0 ≡ false → leb k c ≡ true → linkPlace k s < length w
   link-within k s n le = let p = place-within c k (linkField s) (let z = eqb-false k 0 n in omega arith) (leb-true k c le) in omega arith
 
-  descent-cases : (x at : ℕ) (blank go : Bool) (way : InsertionWalk) → at < length w → (blank ≡ false → go ≡ true → way ≡ blankAt x → x < length w)
-      → cond blank (blankAt at) (cond go way insert.broken) ≡ blankAt x → x < length w
-  descent-cases x at true go way h f e = let q : at ≡ x = cc in omega arith
-  descent-cases x at false true way h f e = f refl refl e
-  descent-cases x at false false way h f e = absurd (let z : _≡_ {A = ℕ} 0 1 = cc in omega arith)
+  descent-cases : (x y at from : ℕ) (blank go : Bool) (way : InsertionWalk) → at < length w
+      → (blank ≡ false → go ≡ true → way ≡ blankAt x y → x < length w)
+      → cond blank (blankAt at from) (cond go way insert.broken) ≡ blankAt x y → x < length w
+  descent-cases x y at from true go way h f e = let q : at ≡ x = cc in omega arith
+  descent-cases x y at from false true way h f e = f refl refl e
+  descent-cases x y at from false false way h f e = absurd (let z : _≡_ {A = ℕ} 0 1 = cc in omega arith)
 
-  pub descent-within : (p : List ℕ) (n at : ℕ) (g : Region) (met x : ℕ) → at < length w → descendFrom w c p n at g met ≡ blankAt x → x < length w
+  pub descent-within : (p : List ℕ) (n from at : ℕ) (g : Region) (met x y : ℕ) → at < length w → descendFrom w c p n from at g met ≡ blankAt x y → x < length w
   unfolding descendFrom
-  descent-within p zero at g met x h e = absurd (let z : _≡_ {A = ℕ} 0 1 = cc in omega arith)
-  descent-within p (suc n) at g met x h e =
+  descent-within p zero from at g met x y h e = absurd (let z : _≡_ {A = ℕ} 0 1 = cc in omega arith)
+  descent-within p (suc n) from at g met x y h e =
       let k = getD w at 0 in
       let a = axisOf (levels - n) in
       let s = sideOf g a (getD p a 0) in
-      descent-cases x at (eqb k 0) (leb k c && ltb met c) (descendFrom w c p n (linkPlace k s) (half s g a) (suc met)) h
-      (λ nz go f. descent-within p n (linkPlace k s) (half s g a) (suc met) x (link-within k s nz (and-true (leb k c) (ltb met c) go)) f) e
+      descent-cases x y at from (eqb k 0) (leb k c && ltb met c) (descendFrom w c p n k (linkPlace k s) (half s g a) (suc met)) h
+      (λ nz go f. descent-within p n k (linkPlace k s) (half s g a) (suc met) x y (link-within k s nz (and-true (leb k c) (ltb met c) go)) f) e
 
   -- the end of a removal walk lies in the pool
   pub record Ends (leaf cut : ℕ) : Type 0 where

@@ -1,7 +1,8 @@
 -- A new point goes down from the root by the half that holds it, to the first blank link; the free head's cell is added there
 -- (document 01, "The tree" and "The walks of a call").
---   InsertionWalk                 broken at a cause of fault 9, or the place of the blank link
---   descendFrom n at g m    from the link at the place `at`, to a cell of region g, m cells met so far; n counts as in Search
+--   InsertionWalk       broken at a cause of fault 9, or the place of the blank link and the cell that it is a link of, 0 for the root's
+--   descendFrom n from at g m   on through the link at the place `at`, of the cell `from`, to a cell of region g, m cells met so far; n counts
+--                       as in Search
 --   descend w p         the whole way of the point p
 --   freeHead, nextFree  the free head, and the left link of its cell
 --   freeBroken w        one of the two is above C, read as grant reads them
@@ -24,21 +25,21 @@ use Rattle.adt.specs.Node.{linkPlace}
 
 pub data InsertionWalk : Type 0 where
   broken : InsertionWalk
-  blankAt : ℕ → InsertionWalk
+  blankAt : ℕ → ℕ → InsertionWalk
 
 module _ (w : List ℕ) (c : ℕ) (p : List ℕ) where
   -- the parent is at the last level: the grant would have to go below it
-  unfoldable pub descendFrom : ℕ → ℕ → Region → ℕ → InsertionWalk
-  descendFrom zero at g met = broken
-  descendFrom (suc n) at g met =
+  unfoldable pub descendFrom : ℕ → ℕ → ℕ → Region → ℕ → InsertionWalk
+  descendFrom zero from at g met = broken
+  descendFrom (suc n) from at g met =
       let k = getD w at 0 in
       let a = axisOf (levels - n) in
       let s = sideOf g a (getD p a 0) in
-      let way = descendFrom n (linkPlace k s) (half s g a) (suc met) in
-      cond (eqb k 0) (blankAt at) (cond (leb k c && ltb met c) way broken)
+      let way = descendFrom n k (linkPlace k s) (half s g a) (suc met) in
+      cond (eqb k 0) (blankAt at from) (cond (leb k c && ltb met c) way broken)
 
 unfoldable pub descend : List ℕ → List ℕ → InsertionWalk
-descend w p = descendFrom w (capacityOf w) p (suc levels) rootPlace rootRegion 0
+descend w p = descendFrom w (capacityOf w) p (suc levels) 0 rootPlace rootRegion 0
 
 abbrev pub freeHead : List ℕ → ℕ
 freeHead w = getD w freePlace 0

@@ -1,7 +1,7 @@
 -- Fault 9 as document 01 says it: the links that a walk goes through, as one list, each with the level that it leads to, counted
 -- up from 0 at the root; taken from the words with no stopping and no counting. 9 comes exactly if one of them is above C or leads
 -- below the last level, or the cells met are more than C. proofs/ joins this with the walks that stop.
---   Link                       its value, and the level of the cell that it leads to
+--   Link                       its value, the level of the cell that it leads to, and the cell that it is gone through from, 0 for the root's
 --   brokenBy c met links       a walk through these links meets a cause of 9; `met` cells were met before the first of them
 --   searchLinks w q            the search's links, in its order
 --   insertionLinks w p         grant's way down of the point p
@@ -28,6 +28,7 @@ use Rattle.adt.specs.Node.{linkPlace}
 
 pub record Link : Type 0 where
   pub level : ℕ
+  pub from : ℕ
   pub to : ℕ
 
 unfoldable pub brokenBy : ℕ → ℕ → List Link → Bool
@@ -35,24 +36,24 @@ brokenBy c met links = any (λ link. ltb c (link .to) || ltb levels (link .level
 
 module _ (w : List ℕ) where
   -- this link, and those behind it; no region is left to test below the last level, so each link there that is not 0 is met
-  unfoldable pub searchFrom : Region → ℕ → ℕ → ℕ → Region → List Link
-  searchFrom q zero l at g = cond (eqb (getD w at 0) 0) [] (record { level = l; to = getD w at 0 } ∷ [])
-  searchFrom q (suc n) l at g =
+  unfoldable pub searchFrom : Region → ℕ → ℕ → ℕ → ℕ → Region → List Link
+  searchFrom q zero l from at g = cond (eqb (getD w at 0) 0) [] (record { level = l; from = from; to = getD w at 0 } ∷ [])
+  searchFrom q (suc n) l from at g =
       let k = getD w at 0 in
       let a = axisOf l in
-      let left = searchFrom q n (suc l) (linkPlace k Left) (half Left g a) in
-      let right = searchFrom q n (suc l) (linkPlace k Right) (half Right g a) in
-      let onward : List Link = record { level = l; to = k } ∷ left ++ right in
+      let left = searchFrom q n (suc l) k (linkPlace k Left) (half Left g a) in
+      let right = searchFrom q n (suc l) k (linkPlace k Right) (half Right g a) in
+      let onward : List Link = record { level = l; from = from; to = k } ∷ left ++ right in
       cond (eqb k 0) [] (cond (meets g q) onward [])
 
   -- a grant that would have to go below the last level meets that cause, whatever link stands there
-  unfoldable pub insertionFrom : List ℕ → ℕ → ℕ → ℕ → Region → List Link
-  insertionFrom p zero l at g = record { level = l; to = getD w at 0 } ∷ []
-  insertionFrom p (suc n) l at g =
+  unfoldable pub insertionFrom : List ℕ → ℕ → ℕ → ℕ → ℕ → Region → List Link
+  insertionFrom p zero l from at g = record { level = l; from = from; to = getD w at 0 } ∷ []
+  insertionFrom p (suc n) l from at g =
       let k = getD w at 0 in
       let a = axisOf l in
       let s = sideOf g a (getD p a 0) in
-      let onward : List Link = record { level = l; to = k } ∷ insertionFrom p n (suc l) (linkPlace k s) (half s g a) in
+      let onward : List Link = record { level = l; from = from; to = k } ∷ insertionFrom p n (suc l) k (linkPlace k s) (half s g a) in
       cond (eqb k 0) [] onward
 
   -- document 01's "left, else right": a link that isn't 0 is gone through, and then right is not looked at
@@ -65,17 +66,17 @@ module _ (w : List ℕ) where
   unfoldable pub removalFrom : ℕ → ℕ → ℕ → List Link
   removalFrom zero l k =
       let next = leftElseRight k in
-      cond (eqb next 0) [] (record { level = suc l; to = next } ∷ [])
+      cond (eqb next 0) [] (record { level = suc l; from = k; to = next } ∷ [])
   removalFrom (suc n) l k =
       let next = leftElseRight k in
-      let onward : List Link = record { level = suc l; to = next } ∷ removalFrom n (suc l) next in
+      let onward : List Link = record { level = suc l; from = k; to = next } ∷ removalFrom n (suc l) next in
       cond (eqb next 0) [] onward
 
 unfoldable pub searchLinks : List ℕ → Region → List Link
-searchLinks w q = searchFrom w q (suc levels) 0 rootPlace rootRegion
+searchLinks w q = searchFrom w q (suc levels) 0 0 rootPlace rootRegion
 
 unfoldable pub insertionLinks : List ℕ → List ℕ → List Link
-insertionLinks w p = insertionFrom w p (suc levels) 0 rootPlace rootRegion
+insertionLinks w p = insertionFrom w p (suc levels) 0 0 rootPlace rootRegion
 
 unfoldable pub removalLinks : List ℕ → ℕ → ℕ → List Link
 removalLinks w k l = removalFrom w (levels - l) l k

@@ -25,7 +25,7 @@ use Rattle.geometry.specs.Region.{Region, rootRegion, half}
 use Rattle.geometry.specs.Point.{inside, pointOf}
 use Rattle.pool.specs.declared.Field.the-variants as field
 use Rattle.pool.specs.Layout.{rootPlace, freePlace, place}
-use Rattle.pool.specs.Cell.{grantWords}
+use Rattle.pool.specs.Cell.{wordsAt, grantWords}
 use Rattle.pool.specs.Fresh.{freeCell}
 use Rattle.adt.specs.Node.{linkPlace}
 use lib.Seq.{slice}
@@ -59,9 +59,9 @@ unfoldable pub regionOf : List Side → Region
 regionOf [] = rootRegion
 regionOf (s ∷ p) = half s (regionOf p) (axisOf (length p))
 
--- the words of the cell k, from the number on, are those of the grant g
+-- what stands in the cell k's fields of a grant are the words of the grant g
 abbrev pub Carries : List ℕ → ℕ → Grant → Type 0
-Carries w k g = slice (place k field.Number) (place (suc k) field.Left) w ≡ grantWords g
+Carries w k g = wordsAt w k ≡ grantWords g
 
 -- the words of the cell k, all of them, are those of a free cell: next in left, zeros elsewhere
 abbrev pub IsFree : List ℕ → ℕ → ℕ → Type 0

@@ -3,8 +3,9 @@
 --   Search          broken, or how far it got: cells met, the hits' cells in order, where the first hit hangs
 --   meet            the cell is met and counted, and is a hit where its grant passes the test
 --   visitBy enter   the cell is met; then the left subtree is entered, then the right
---   enter n at g    the link at the place `at` is gone through, if it leads to a cell and that cell's region g meets the range;
---                   n is the number of levels below the parent, so the root is entered with one more than there are levels
+--   enter n from at g   the link at the place `at` is gone through from the cell `from`, 0 for the root's link, if it leads to a cell and that
+--                   cell's region g meets the range; n is the number of levels below the parent, so the root is entered with one more than
+--                   there are levels
 --   searchBy w q passes   the whole walk, from the root: it goes by the range q, and its hits are the cells met whose grants pass the test
 --   search w q            the walk whose hits are the cells in its range
 -- Assumes nothing: these are definitions.
@@ -57,14 +58,14 @@ module _ (w : List ℕ) (c : ℕ) (q : Region) (passes : Grant → Bool) where
       (going (suc met) hits first))
       broken
 
-  unfoldable pub visitBy : (ℕ → Region → Search → Search) → Spot → ℕ → Region → Search → Search
+  unfoldable pub visitBy : (ℕ → ℕ → Region → Search → Search) → Spot → ℕ → Region → Search → Search
   visitBy enter here k g s =
       let a = axisOf (here .level) in
-      enter (linkPlace k Right) (half Right g a) (enter (linkPlace k Left) (half Left g a) (meet here k s))
+      enter k (linkPlace k Right) (half Right g a) (enter k (linkPlace k Left) (half Left g a) (meet here k s))
 
-  unfoldable pub enter : ℕ → ℕ → Region → Search → Search
-  enter zero at g s = unlessBroken s (cond (eqb (getD w at 0) 0) s broken)
-  enter (suc n) at g s =
+  unfoldable pub enter : ℕ → ℕ → ℕ → Region → Search → Search
+  enter zero from at g s = unlessBroken s (cond (eqb (getD w at 0) 0) s broken)
+  enter (suc n) from at g s =
       let k = getD w at 0 in
       unlessBroken s
       (cond (eqb k 0) s
@@ -73,7 +74,7 @@ module _ (w : List ℕ) (c : ℕ) (q : Region) (passes : Grant → Bool) where
       s))
 
 unfoldable pub searchBy : List ℕ → Region → (Grant → Bool) → Search
-searchBy w q passes = enter w (capacityOf w) q passes (suc levels) rootPlace rootRegion (going 0 [] nowhere)
+searchBy w q passes = enter w (capacityOf w) q passes (suc levels) 0 rootPlace rootRegion (going 0 [] nowhere)
 
 abbrev pub search : List ℕ → Region → Search
 search w q = searchBy w q (inRange q)

@@ -6,17 +6,15 @@
 --   Encodes c going hits counters s  the memory stands for s, and serves the next step
 --   Testing w c q hits counters k    what the test of the cell k goes by: a cell of the pool, and a search range
 --   Visiting .. k n g                what its visit goes by: n levels below it, and its region g, which meets the range
---   Entering .. n link g             what `enter` goes by at a link that isn't blank: n levels below the parent, and the parent's region g,
---                                    which meets the range; at the root's link one level more than there are, and the root's region
---   regionEntered n s g              the region of the cell that the link leads to: the half of g on a side, at the root all of it
---   tested, visited, entered         the state of the search after the test of a cell, after its visit, and once its subtree was entered
+--   Entering .. n p s g              what `enter` goes by at the link of the cell p on the side s, which isn't blank: n levels below p, and p's
+--                                    region g, which meets the range
+--   tested, visited, entered         the state of the search after the test of a cell, after its visit, and once its subtree on a side was entered
 -- The contracts of the walk cite these; no claim does. Assumes nothing: these are definitions.
-use Prim.Native.Nat.{ℕ, suc, _-_, _<_, _≤_}
+use Prim.Native.Nat.{ℕ, _-_, _<_, _≤_}
 use mathlib.Core.Logic.{_≢_}
 use mathlib.Core.Path.{_≡_}
-use mathlib.Core.Bool.{Bool, true, false, cond}
+use mathlib.Core.Bool.{Bool, true, false}
 use mathlib.Core.List.{List}
-use lib.Dec.{leb}
 use lib.ListN.{length, take, getD, replicate}
 use Rattle.model.specs.Limits.{maxGrants}
 use Rattle.model.specs.declared.Grant.{Grant}
@@ -26,6 +24,7 @@ use Rattle.geometry.specs.Levels.{levels}
 use Rattle.geometry.specs.Region.{Region, Shape, half, meets}
 use Rattle.geometry.specs.SearchRange.{OneSided}
 use Rattle.pool.specs.Capacity.{poolLength}
+use Rattle.adt.specs.Node.{linkPlace}
 use Rattle.adt.specs.Search.{Search, broken, going, meet, visitBy, enter}
 
 abbrev pub metIn : List ℕ → ℕ
@@ -61,9 +60,6 @@ pub record Encodes (c : ℕ) (going : Bool) (hits counters : List ℕ) (s : Sear
   pub counted : Counted c hits counters
   pub state : searchIn going hits counters ≡ s
 
-abbrev pub regionEntered : ℕ → Side → Region → Region
-regionEntered n s g = cond (leb n levels) (half s g (axisOf (levels - n))) g
-
 module _ (w : List ℕ) (c : ℕ) (q : Region) (hits counters : List ℕ) where
   pub record Testing (k : ℕ) : Type 0 where
     pub ready : Ready w c hits counters
@@ -77,11 +73,12 @@ module _ (w : List ℕ) (c : ℕ) (q : Region) (hits counters : List ℕ) where
     pub shape : Shape g
     pub meeting : meets g q ≡ true
 
-  pub record Entering (n link : ℕ) (g : Region) : Type 0 where
+  pub record Entering (n p : ℕ) (s : Side) (g : Region) : Type 0 where
     pub ready : Ready w c hits counters
-    pub at : link < length w
-    pub leads : getD w link 0 ≢ 0
-    pub in-levels : n ≤ suc levels
+    pub some : 0 < p
+    pub in-cells : p ≤ c
+    pub leads : getD w (linkPlace p s) 0 ≢ 0
+    pub in-levels : n ≤ levels
     pub one-sided : OneSided q
     pub shape : Shape g
     pub meeting : meets g q ≡ true
@@ -93,5 +90,5 @@ module _ (w : List ℕ) (c : ℕ) (q : Region) (passes : Grant → Bool) (hits c
   abbrev pub visited : (k n link : ℕ) → Region → Search
   visited k n link g = visitBy w c q passes (enter w c q passes n) (record { level = levels - n; link = link }) k g (searchIn true hits counters)
 
-  abbrev pub entered : (n link : ℕ) → Side → Region → Search
-  entered n link s g = enter w c q passes n link (regionEntered n s g) (searchIn true hits counters)
+  abbrev pub entered : (n p : ℕ) → Side → Region → Search
+  entered n p s g = enter w c q passes n p (linkPlace p s) (half s g (axisOf (levels - n))) (searchIn true hits counters)

@@ -20,7 +20,7 @@ use Rattle.adt.specs.Remove as remove
 
 abbrev pub insertionWalkOf : Slot → insert.InsertionWalk
 insertionWalkOf slot.Broken = insert.broken
-insertionWalkOf (slot.At link) = insert.blankAt link
+insertionWalkOf (slot.At link parent) = insert.blankAt link parent
 
 abbrev pub removalWalkOf : Terminal → remove.RemovalWalk
 removalWalkOf terminal.Broken = remove.broken

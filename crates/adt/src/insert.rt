@@ -16,10 +16,10 @@ use pool::layout::FREE;
 use pool::layout::ROOT;
 use pool::layout::wide;
 
-// Where a way down ends: at a cause of fault 9, or at the place of the blank link.
+// Where a way down ends: at a cause of fault 9, or at the place of the blank link, which is the parent's, 0 for the root's.
 pub enum Slot {
     Broken,
-    At(usize),
+    At { link: usize, parent: usize },
 }
 
 // The way down of a point.
@@ -28,6 +28,7 @@ pub fn find_slot(pool: &[u16], cells: usize, point: Point) -> Slot
     ensures { λ r. ⌜ insertionWalkOf r ≡ descend (now (pool .entry)) point ⌝ }
 {
     let mut region = root_region();
+    let mut parent: usize = 0;
     let mut link: usize = ROOT;
     let mut below: usize = LEVELS + 1;
     let mut met: usize = 0;
@@ -35,7 +36,7 @@ pub fn find_slot(pool: &[u16], cells: usize, point: Point) -> Slot
         below -= 1;
         let k = wide(pool[link]);
         if k == 0 {
-            return Slot::At(link);
+            return Slot::At { link, parent };
         }
         if cells < k {
             return Slot::Broken;
@@ -47,6 +48,7 @@ pub fn find_slot(pool: &[u16], cells: usize, point: Point) -> Slot
         let side = side_of(&region, axis, point[axis]);
         region[axis] = half_of(side, region[axis][0], region[axis][1]);
         link = link_place(k, side);
+        parent = k;
         met += 1;
     }
     Slot::Broken

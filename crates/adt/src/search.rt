@@ -17,8 +17,10 @@ use geometry::region::half_meets;
 use geometry::region::half_of;
 use geometry::region::meets_range;
 use geometry::region::root_region;
+use pool::Field;
 use pool::layout::MAX_CAPACITY;
 use pool::layout::ROOT;
+use pool::layout::field;
 use pool::layout::wide;
 
 // Room for a hit of every cell: the cells of the hits, in the order of the search.
@@ -105,13 +107,12 @@ fn visit(
     ) {
         return false;
     }
-    let left = link_place(k, Side::Left);
-    if pool[left] != 0 {
+    if field(pool, k, Field::Left) != 0 {
         if !enter(
             pool,
             cells,
             below,
-            left,
+            k,
             Side::Left,
             region,
             range,
@@ -122,15 +123,14 @@ fn visit(
             return false;
         }
     }
-    let right = link_place(k, Side::Right);
-    if pool[right] == 0 {
+    if field(pool, k, Field::Right) == 0 {
         return true;
     }
     enter(
         pool,
         cells,
         below,
-        right,
+        k,
         Side::Right,
         region,
         range,
@@ -140,13 +140,13 @@ fn visit(
     )
 }
 
-// Goes through the link at a place if the region that it leads to meets the range, and visits the cell there. That region is the half on a
-// side of the parent's, which is handed in; the root, entered with one level more than there are, has all of the region that is handed in.
+// Goes through the link of the parent on a side, which isn't blank, if the half of the parent's region on that side meets the range, and visits
+// the cell there. So many levels are below the parent.
 fn enter(
     pool: &[u16],
     cells: usize,
     below: usize,
-    link: usize,
+    parent: usize,
     side: Side,
     mut region: Region,
     range: &Region,
@@ -154,21 +154,20 @@ fn enter(
     hits: &mut HitCells,
     counters: &mut Counters,
 ) -> bool
-    requires { ⌜ Entering (now pool) cells (now range) (now hits) (now counters) below link region ⌝ }
+    requires { ⌜ Entering (now pool) cells (now range) (now hits) (now counters) below parent side region ⌝ }
     ensures { λ r. ⌜ Encodes cells r (now (hits .exit)) (now (counters .exit))
         (entered (now (pool .entry)) cells (now (range .entry)) (testOf (predicateIn (now (predicate .entry))) (now (range .entry)))
-        (now (hits .entry)) (now (counters .entry)) below link side region) ⌝ }
+        (now (hits .entry)) (now (counters .entry)) below parent side region) ⌝ }
 {
     if below == 0 {
         return false;
     }
-    if below <= LEVELS {
-        let axis = axis_of(LEVELS - below);
-        if !half_meets(&region, range, axis, side) {
-            return true;
-        }
-        region[axis] = half_of(side, region[axis][0], region[axis][1]);
+    let axis = axis_of(LEVELS - below);
+    if !half_meets(&region, range, axis, side) {
+        return true;
     }
+    region[axis] = half_of(side, region[axis][0], region[axis][1]);
+    let link = link_place(parent, side);
     let child = wide(pool[link]);
     if cells < child {
         return false;
@@ -201,20 +200,24 @@ pub fn search(
     ensures { λ r. ⌜ Encodes cells r (now (hits .exit)) (now (counters .exit))
         (searchBy (now (pool .entry)) (now (range .entry)) (testOf predicate (now (range .entry)))) ⌝ }
 {
-    if pool[ROOT] == 0 {
+    let root = wide(pool[ROOT]);
+    if root == 0 {
         return true;
     }
     let region = root_region();
     if !meets_range(&region, range) {
         return true;
     }
+    if cells < root {
+        return false;
+    }
     let words = words_of(predicate);
-    enter(
+    visit(
         pool,
         cells,
-        LEVELS + 1,
+        LEVELS,
+        root,
         ROOT,
-        Side::Left,
         region,
         range,
         &words,

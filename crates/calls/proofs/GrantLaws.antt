@@ -83,9 +83,10 @@ module _ {w v : List ℕ} {b : Book} {k : ℕ} {ks : List ℕ} {g : Grant} (h : 
 
 pub record Insertion {w : List ℕ} {b : Book} (h : Represents w b) (r : Request) : Type 0 where
   pub link : ℕ
+  pub parent : ℕ
   pub cell : ℕ
   pub rest : List ℕ
-  pub way : insertionWalk w r ≡ blankAt link
+  pub way : insertionWalk w r ≡ blankAt link parent
   pub linked : Linked w (b .capacity) (h .tree) (cell ∷ rest)
   pub done : Inserted w (inserted w link (requested r)) (b .capacity) (h .tree) cell rest (requested r)
 
@@ -146,6 +147,7 @@ module _ {w : List ℕ} {b : Book} (h : Represents w b) (r : Request) (fits : Re
       go (k ∷ ks) linked count leads room =
           record {
             link = leads .link;
+            parent = leads .parent;
             cell = k;
             rest = ks;
             way = leads .way;

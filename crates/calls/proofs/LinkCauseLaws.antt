@@ -67,7 +67,7 @@ pointBroken-links w staff door quarter = go (coverable quarter)
 
 insertionBroken-same : (way : InsertionWalk) → insertionBroken way ≡ brokenInsertion way
 insertionBroken-same insert.broken = refl
-insertionBroken-same (insert.blankAt at) = refl
+insertionBroken-same (insert.blankAt at parent) = refl
 
 removalBroken-same : (d : RemovalWalk) → removalBroken d ≡ brokenRemoval d
 removalBroken-same remove.broken = refl

@@ -38,7 +38,7 @@ listTooShort hits lent = ltb (length lent) (length hits)
 
 abbrev pub insertionBroken : InsertionWalk → Bool
 insertionBroken insert.broken = true
-insertionBroken (insert.blankAt at) = false
+insertionBroken (insert.blankAt at parent) = false
 
 abbrev pub removalBroken : RemovalWalk → Bool
 removalBroken remove.broken = true

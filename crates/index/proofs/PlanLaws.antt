@@ -80,7 +80,7 @@ module _ (w : List ℕ) (r : Request) where
       pub grant-absent : NumberFound w (r .number) hit.Absent → (plan : Insertion) → SlotPlanned w r plan → GrantPlanned w r plan
       unfolding InsertionPlanned NumberFound
       grant-absent f (insertion.Refused fault) e = absent-line w r p faultless (f .unbroken) (f .none) ∙ e
-      grant-absent f (insertion.At link free next) e =
+      grant-absent f (insertion.At link parent free next) e =
           record { passes = absent-line w r p faultless (f .unbroken) (f .none) ∙ e .passes; way = e .way; slot = e .slot }
 
   pub grant-refused : (fault : Fault) → GrantPlanned w r (insertion.Refused fault)
@@ -88,10 +88,10 @@ module _ (w : List ℕ) (r : Request) where
   unfolding InsertionPlanned grantCall refusing
   grant-refused fault e = record { answered = rw e; left = rw e }
 
-  pub grant-done : (link free next : ℕ) {v : List ℕ} → GrantPlanned w r (insertion.At link free next) → v ≡ inserted w link (requested r)
+  pub grant-done : (link parent free next : ℕ) {v : List ℕ} → GrantPlanned w r (insertion.At link parent free next) → v ≡ inserted w link (requested r)
       → Leaves (outcomeAnswer outcome.Done) v (grantCall w r)
   unfolding InsertionPlanned grantCall refusing
-  grant-done link free next p e = record { answered = rw (p .passes); left = e ∙ rw (p .passes, p .way) }
+  grant-done link parent free next p e = record { answered = rw (p .passes); left = e ∙ rw (p .passes, p .way) }
 
 -- revoke's line, as far as its tests have come
 module _ (w : List ℕ) (n : ℕ) where

@@ -49,7 +49,12 @@ pub fn grant(pool: &mut [u16], number: u16, rank: u8, kind: u8, bounds: Box) -> 
     let plan = plan_insertion(pool, number, rank, kind, bounds);
     match plan {
         Insertion::Refused(f) => Outcome::Refused(f),
-        Insertion::At { link, free, next } => {
+        Insertion::At {
+            link,
+            parent: _,
+            free,
+            next,
+        } => {
             insert(
                 pool,
                 link,

@@ -3,35 +3,36 @@
 --   length-some                                            a capacity other than 0 is that of specs/Capacity, and the pool has a header
 --   pool-none, pool-other, pool-right                      of the length and the first word
 -- Assumes nothing.
-use Prim.Native.Nat.{ℕ, _+_, _-_, _*_, _/_, _<_, _≤_}
+use Prim.Native.Nat.{ℕ, _-_, _/_, _<_, _≤_}
 use mathlib.Core.Path.{_≡_, refl, sym, _∙_}
 use mathlib.Core.Bool.{Bool, true, false, cond}
 use mathlib.Core.List.{List}
 use native.Mathlib.Omega.{arith}
 use lib.ListN.{length, getD}
 use borrow.Author.Tests.{le-leb, lt-leb, eq-eqb, ne-eqb}
-use Rattle.pool.specs.Layout.{capacityPlace}
-use Rattle.pool.specs.Capacity.{capacityOf, wrongLength, wrongPool, lengthCapacity, poolCapacity}
+use Rattle.model.specs.Limits.{maxGrants}
+use Rattle.pool.specs.Layout.{capacityPlace, headerWords, cellWords}
+use Rattle.pool.specs.Capacity.{poolLength, capacityOf, wrongLength, wrongPool, lengthCapacity, poolCapacity}
 
 module _ (w : List ℕ) where
   abbrev cells : ℕ
-  cells = (length w - 3) / 10
+  cells = (length w - headerWords) / cellWords
 
-  pub length-short : length w < 13 → 0 ≡ lengthCapacity w
+  pub length-short : length w < poolLength 1 → 0 ≡ lengthCapacity w
   unfolding wrongLength capacityOf
   length-short h = rw (lt-leb 1 cells (omega arith))
 
-  pub length-many : 2048 < cells → 0 ≡ lengthCapacity w
+  pub length-many : maxGrants < cells → 0 ≡ lengthCapacity w
   unfolding wrongLength capacityOf
-  length-many m = rw (le-leb 1 cells (omega arith), lt-leb cells 2048 m)
+  length-many m = rw (le-leb 1 cells (omega arith), lt-leb cells maxGrants m)
 
-  pub length-odd : 13 ≤ length w → cells ≤ 2048 → ¬ (length w ≡ 3 + 10 * cells) → 0 ≡ lengthCapacity w
+  pub length-odd : poolLength 1 ≤ length w → cells ≤ maxGrants → ¬ (length w ≡ poolLength cells) → 0 ≡ lengthCapacity w
   unfolding wrongLength capacityOf
-  length-odd h m n = rw (le-leb 1 cells (omega arith), le-leb cells 2048 m, ne-eqb (length w) (3 + 10 * cells) n)
+  length-odd h m n = rw (le-leb 1 cells (omega arith), le-leb cells maxGrants m, ne-eqb (length w) (poolLength cells) n)
 
-  pub length-right : 13 ≤ length w → cells ≤ 2048 → length w ≡ 3 + 10 * cells → cells ≡ lengthCapacity w
+  pub length-right : poolLength 1 ≤ length w → cells ≤ maxGrants → length w ≡ poolLength cells → cells ≡ lengthCapacity w
   unfolding wrongLength capacityOf
-  length-right h m e = rw (le-leb 1 cells (omega arith), le-leb cells 2048 m, eq-eqb (length w) (3 + 10 * cells) e)
+  length-right h m e = rw (le-leb 1 cells (omega arith), le-leb cells maxGrants m, eq-eqb (length w) (poolLength cells) e)
 
   -- which of the two a capacity other than 0 is
   right-some : (b : Bool) {c : ℕ} → c ≡ cond b 0 (capacityOf w) → ¬ (c ≡ 0) → (b ≡ false) × (capacityOf w ≡ c)
@@ -41,7 +42,7 @@ module _ (w : List ℕ) where
   pub length-some : {c : ℕ} → c ≡ lengthCapacity w → ¬ (c ≡ 0) → (wrongLength w ≡ false) × (capacityOf w ≡ c)
   length-some e n = right-some (wrongLength w) e n
 
-  pub length-header : {c : ℕ} → c ≡ lengthCapacity w → ¬ (c ≡ 0) → 3 < length w
+  pub length-header : {c : ℕ} → c ≡ lengthCapacity w → ¬ (c ≡ 0) → headerWords < length w
   unfolding capacityOf
   length-header e n = let f : cells ≡ _ = length-some e n .1 in omega arith
 

@@ -3,7 +3,8 @@
 --   field-withCell-same         a field of the cell that was stored is the word at its offset
 --   field-withCell-other        fields of other cells stay
 --   header-withCell             the header's words stay
---   SameGrantWords w v k        the words of cell k from the number on are the same in both
+--   grant-past                  the fields of a grant stand behind the links
+--   SameGrantWords w v k        the fields of cell k that carry its grant are the same in both
 --   grantAt-same                then the grant is the same
 --   grantAt-withCell-same       the grant that was stored, if it fits
 -- Assumes nothing.
@@ -11,6 +12,7 @@ use Prim.Native.Nat.{ℕ, _+_, _*_, _/_, _%_, _<_, _≤_}
 use mathlib.Core.Path.{_≡_, refl, ap, _∙_}
 use mathlib.Core.List.{List}
 use native.Mathlib.Omega.{arith}
+use lib.Dec.{T, lit<}
 use lib.ListN.{length, getD}
 use lib.Seq.{sets, length-sets}
 use Rattle.lists.proofs.StoreLaws.{getD-sets-same, getD-sets-other}
@@ -20,10 +22,10 @@ use Rattle.model.specs.declared.Grant.{Grant}
 use Rattle.model.specs.Kind.{kindNumber, kindOf}
 use Rattle.model.specs.Values.{GrantFits}
 use Rattle.pool.specs.declared.Field.{Field}
-use Rattle.pool.specs.declared.Field.the-variants.{Left, Number, RankKind, StaffFrom, StaffTo, DoorFrom, DoorTo, QuarterFrom, QuarterTo}
+use Rattle.pool.specs.declared.Field.the-variants.{Left, Right, Number, RankKind, StaffFrom, StaffTo, DoorFrom, DoorTo, QuarterFrom, QuarterTo}
 use Rattle.pool.specs.Layout.{headerWords, cellWords, offset, place, fieldOf}
 use Rattle.pool.specs.Capacity.{poolLength}
-use Rattle.pool.specs.Cell.{grantAt, cellOf, withCell}
+use Rattle.pool.specs.Cell.{ofGrant, grantAt, cellOf, withCell}
 use Rattle.pool.proofs.LayoutLaws.{offset-lt, place-past-header}
 
 pub length-withCell : (w : List ℕ) (k : ℕ) (ws : List ℕ) → length (withCell w k ws) ≡ length w
@@ -45,22 +47,25 @@ module _ (w : List ℕ) (k : ℕ) (ws : List ℕ) (ten : length ws ≡ cellWords
   unfolding withCell
   header-withCell i h = getD-sets-other w (place k Left) ws i 0 (λ m lt. omega (arith, place-past-header k Left))
 
+pub grant-past : (f : Field) → T (ofGrant f) → offset Right < offset f
+grant-past Left h = absurd h
+grant-past Right h = absurd h
+grant-past Number h = lit< tt
+grant-past RankKind h = lit< tt
+grant-past StaffFrom h = lit< tt
+grant-past StaffTo h = lit< tt
+grant-past DoorFrom h = lit< tt
+grant-past DoorTo h = lit< tt
+grant-past QuarterFrom h = lit< tt
+grant-past QuarterTo h = lit< tt
+
 abbrev pub SameGrantWords : List ℕ → List ℕ → ℕ → Type 0
-SameGrantWords w v k = (f : Field) → offset Number ≤ offset f → fieldOf v k f ≡ fieldOf w k f
+SameGrantWords w v k = (f : Field) → T (ofGrant f) → fieldOf v k f ≡ fieldOf w k f
 
 pub grantAt-same : (w v : List ℕ) (k : ℕ) → SameGrantWords w v k → grantAt v k ≡ grantAt w k
 unfolding grantAt
 grantAt-same w v k same =
-    cc (
-      same Number (omega arith),
-      same RankKind (omega arith),
-      same StaffFrom (omega arith),
-      same StaffTo (omega arith),
-      same DoorFrom (omega arith),
-      same DoorTo (omega arith),
-      same QuarterFrom (omega arith),
-      same QuarterTo (omega arith),
-    )
+    cc (same Number tt, same RankKind tt, same StaffFrom tt, same StaffTo tt, same DoorFrom tt, same DoorTo tt, same QuarterFrom tt, same QuarterTo tt)
 
 -- rank and kind from their word
 pub rank-word : (r : ℕ) (k : Kind) → r < 256 → (r * 2 + kindNumber k) / 2 % 256 ≡ r

@@ -1,16 +1,15 @@
 -- Laws of a free cell: the next one in left, zeros elsewhere.
 --   Cleared w k            every field of the cell k but left is 0
---   cleared-same           where these fields are the same
+--   cleared-same           where its fields are the same
 --   cleared-withCell       of a free cell that was stored
 --   cleared-freshPool      of each cell that start makes
 --   cleared-words          the words of such a cell are those of a free cell that leads to what its left names
 -- Assumes nothing.
 use Prim.Native.Nat.{ℕ, zero, suc, _-_, _<_, _≤_}
-use mathlib.Core.Path.{_≡_, refl, ap, _∙_}
+use mathlib.Core.Path.{_≡_, refl, _∙_}
 use mathlib.Core.Bool.{cond}
 use mathlib.Core.List.{List}
 use native.Mathlib.Omega.{arith}
-use native.Mathlib.Decide.{decLt}
 use lib.Dec.{eqb}
 use lib.ListN.{length, getD, getD-replicate}
 use lib.Seq.{slice}
@@ -21,24 +20,15 @@ use Rattle.pool.specs.Capacity.{poolLength}
 use Rattle.pool.specs.Cell.{withCell}
 use Rattle.pool.specs.Fresh.{freeCell, freshPool}
 use Rattle.pool.proofs.LayoutLaws.{offset-lt}
-use Rattle.pool.proofs.CellLaws.{SameGrantWords, field-withCell-same}
+use Rattle.pool.proofs.CellLaws.{field-withCell-same}
 use Rattle.pool.proofs.FreshLaws.{field-freshPool}
-use Rattle.pool.proofs.GrantWordsLaws.{slice-cell}
+use Rattle.pool.proofs.CellWordsLaws.{slice-cell}
 
 abbrev pub Cleared : List ℕ → ℕ → Type 0
 Cleared w k = (f : Field) → offset Right ≤ offset f → fieldOf w k f ≡ 0
 
--- a field is told by its offset
-field-offset : (w : List ℕ) (k : ℕ) (f g : Field) → offset f ≡ offset g → fieldOf w k f ≡ fieldOf w k g
-unfolding fieldOf place
-field-offset w k f g e = ap (λ (i : ℕ). getD w i 0) (omega arith)
-
-pub cleared-same : (w v : List ℕ) (k : ℕ) → fieldOf v k Right ≡ fieldOf w k Right → SameGrantWords w v k → Cleared w k → Cleared v k
-cleared-same w v k right same cleared f h = go (decLt (offset Right) (offset f))
-  where
-    go : Dec (offset Right < offset f) → fieldOf v k f ≡ 0
-    go (yes l) = same f (omega arith) ∙ cleared f h
-    go (no l) = field-offset v k f Right (omega arith) ∙ right ∙ cleared Right (omega arith)
+pub cleared-same : (w v : List ℕ) (k : ℕ) → ((f : Field) → fieldOf v k f ≡ fieldOf w k f) → Cleared w k → Cleared v k
+cleared-same w v k same cleared f h = same f ∙ cleared f h
 
 -- the words of a free cell but the first are 0
 free-word : (next i : ℕ) → 1 ≤ i → i < cellWords → getD (freeCell next) i 0 ≡ 0

@@ -1,6 +1,6 @@
 -- Laws of the places of a pool's words, and of reads after stores.
 --   offset-lt                   an offset is one of a cell's words
---   place-injective             two places of cells are equal only if cell and offset are
+--   same-offset, place-injective    two places of cells are equal only if offset and cell are
 --   place-past-header           a cell's place is none of the header's
 --   place-within                the places of cells 1 to c lie in a pool of c cells
 --   field-set-other-field, field-set-header    fields that other stores leave
@@ -35,7 +35,7 @@ module _ (j k : ℕ) (f g : Field) (e : place j f ≡ place k g) where
   unfolding place
   past-header = omega (arith, e)
 
-  same-offset : offset f ≡ offset g
+  pub same-offset : offset f ≡ offset g
   same-offset = sym (digits-mod (j - 1) (offset-lt f)) ∙ ap (λ (n : ℕ). n % cellWords) past-header ∙ digits-mod (k - 1) (offset-lt g)
 
   same-cell : j - 1 ≡ k - 1

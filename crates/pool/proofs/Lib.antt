@@ -6,5 +6,5 @@ pub mod CapacityLaws
 pub mod CapacitySteps
 pub mod FreshLaws
 pub mod FreshSteps
-pub mod GrantWordsLaws
+pub mod CellWordsLaws
 pub mod FreeCellLaws

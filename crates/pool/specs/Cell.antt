@@ -1,17 +1,21 @@
 -- What a cell carries (document 01, "The tree": left, right, number, rank × 2 + kind, and the six box values).
 --   grantAt w k         the grant in cell k
---   grantWords g        its words, from the number on
+--   grantFields, ofGrant f   the fields that carry it, by name, and whether a field is one of them
+--   wordsAt w k         what stands in these fields of cell k
+--   grantWords g        the words of a grant in these fields
 --   cellOf l r g        the words of a cell with the links l and r
 --   withCell w k ws     the pool after ws were stored in cell k
 -- Document 01 says nothing of a word rank × 2 + kind above 511, which only a scrambled pool has; here its rank is taken modulo 256.
 -- Assumes nothing: these are definitions.
 use Prim.Native.Nat.{ℕ, _+_, _*_, _/_, _%_}
-use mathlib.Core.List.{List, _∷_}
+use mathlib.Core.Bool.{Bool, true, false}
+use mathlib.Core.List.{List, [], _∷_, map}
 use lib.Seq.{sets}
 use Rattle.model.specs.declared.Grant.{Grant}
 use Rattle.model.specs.Kind.{kindNumber, kindOf}
 use Rattle.model.specs.Box.{boxValues}
-use Rattle.pool.specs.declared.Field.the-variants.{Left, Number, RankKind, StaffFrom, StaffTo, DoorFrom, DoorTo, QuarterFrom, QuarterTo}
+use Rattle.pool.specs.declared.Field.{Field}
+use Rattle.pool.specs.declared.Field.the-variants.{Left, Right, Number, RankKind, StaffFrom, StaffTo, DoorFrom, DoorTo, QuarterFrom, QuarterTo}
 use Rattle.pool.specs.Layout.{fieldOf, place}
 
 unfoldable pub grantAt : List ℕ → ℕ → Grant
@@ -30,6 +34,24 @@ grantAt w k =
             «quarter_to» = fieldOf w k QuarterTo;
           };
     }
+
+abbrev pub grantFields : List Field
+grantFields = Number ∷ RankKind ∷ StaffFrom ∷ StaffTo ∷ DoorFrom ∷ DoorTo ∷ QuarterFrom ∷ QuarterTo ∷ []
+
+abbrev pub ofGrant : Field → Bool
+ofGrant Left = false
+ofGrant Right = false
+ofGrant Number = true
+ofGrant RankKind = true
+ofGrant StaffFrom = true
+ofGrant StaffTo = true
+ofGrant DoorFrom = true
+ofGrant DoorTo = true
+ofGrant QuarterFrom = true
+ofGrant QuarterTo = true
+
+abbrev pub wordsAt : List ℕ → ℕ → List ℕ
+wordsAt w k = map (fieldOf w k) grantFields
 
 abbrev pub grantWords : Grant → List ℕ
 grantWords g = g .number ∷ (g .rank * 2 + kindNumber (g .kind)) ∷ boxValues (g .bounds)

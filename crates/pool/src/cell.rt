@@ -44,7 +44,7 @@ pub fn grant_at(pool: &[u16], cell: usize) -> Grant
 }
 
 // Stores the words of a cell.
-fn store_cell(pool: &mut [u16], cell: usize, words: [u16; 10])
+fn store_cell(pool: &mut [u16], cell: usize, words: [u16; CELL_WORDS])
     requires { ⌜ InPool (now pool) cell × (length words ≡ cellWords) ⌝ }
     ensures { λ r. ⌜ now (pool .exit) ≡ withCell (now (pool .entry)) cell words ⌝ }
 {

@@ -65,7 +65,7 @@ module _ (w : List ℕ) (r : Request) where
   unfolding InsertionPlanned slotOrder firstFault
   slot-broken e = rw e
 
-  module _ {c link free : ℕ} (sized : Sized w c) (way : insertionWalk w r ≡ blankAt link) (head : free ≡ freeHead w) where
+  module _ {c link parent free : ℕ} (sized : Sized w c) (way : insertionWalk w r ≡ blankAt link parent) (head : free ≡ freeHead w) where
     capacity-is : capacityOf w ≡ c
     capacity-is = capacityOf-poolLength w c (sized .long)
 
@@ -83,7 +83,7 @@ module _ (w : List ℕ) (r : Request) where
         unfolding InsertionPlanned slotOrder firstFault freeBroken
         free-next-above h = rw (way, capacity-is, ← after, ← head, le-ltb c free le, ne-eqb free 0 nz, lt-ltb c next h)
 
-        pub free-planned : next ≤ c → SlotPlanned w r (insertion.At link free next)
+        pub free-planned : next ≤ c → SlotPlanned w r (insertion.At link parent free next)
         unfolding InsertionPlanned slotOrder firstFault freeBroken descend
         free-planned h = record {
           passes = rw (way, capacity-is, ← after, ← head, le-ltb c free le, ne-eqb free 0 nz, le-ltb c next h);
@@ -91,26 +91,26 @@ module _ (w : List ℕ) (r : Request) where
           slot =
               record {
                 cell = cell-inPool sized (omega arith) le;
-                at = descent-within w c (sized .long) _ _ _ _ _ _ (omega (arith, sized .long)) (rw capacity-is at way);
+                at = descent-within w c (sized .long) _ _ _ _ _ _ _ _ (omega (arith, sized .long)) (rw capacity-is at way);
                 head = head;
                 after = after;
               };
         }
 
   -- what the stores need
-  pub plan-inserts : (causes : List Cause) (link free next : ℕ) → InsertionPlanned causes w r (insertion.At link free next)
+  pub plan-inserts : (causes : List Cause) (link parent free next : ℕ) → InsertionPlanned causes w r (insertion.At link parent free next)
       → FreeSlot w link free next
   unfolding InsertionPlanned
-  plan-inserts causes link free next p = p .slot
+  plan-inserts causes link parent free next p = p .slot
 
   -- the same where the number is known to be new
   pub added-refused : (fault : Fault) → SlotPlanned w r (insertion.Refused fault) → w ≡ added w r
   unfolding InsertionPlanned added refusing
   added-refused fault e = rw (added, e)
 
-  pub added-done : (link free next : ℕ) {v : List ℕ} → SlotPlanned w r (insertion.At link free next) → v ≡ inserted w link (requested r) → v ≡ added w r
+  pub added-done : (link parent free next : ℕ) {v : List ℕ} → SlotPlanned w r (insertion.At link parent free next) → v ≡ inserted w link (requested r) → v ≡ added w r
   unfolding InsertionPlanned added refusing
-  added-done link free next p e = e ∙ rw (added, p .passes, p .way)
+  added-done link parent free next p e = e ∙ rw (added, p .passes, p .way)
 
   pub added-grant : firstFault (grantLine w r) ≡ firstFault (slotOrder w r) → grantCall w r .state ≡ added w r
   unfolding added grantCall refusing

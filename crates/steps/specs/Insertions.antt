@@ -35,15 +35,15 @@ unfoldable pub addedAll : List ℕ → List Grant → List ℕ
 addedAll w [] = w
 addedAll w (g ∷ gs) = addedAll (added w (requestOf g)) gs
 
--- no cause is left, the way down ends at the link's place, and the free head's cell can hang there
-pub record Insertable (causes : List Cause) (w : List ℕ) (r : Request) (link free next : ℕ) : Type 0 where
+-- no cause is left, the way down ends at the link's place, a link of the parent's, and the free head's cell can hang there
+pub record Insertable (causes : List Cause) (w : List ℕ) (r : Request) (link parent free next : ℕ) : Type 0 where
   pub passes : firstFault causes ≡ none
-  pub way : insertionWalk w r ≡ blankAt link
+  pub way : insertionWalk w r ≡ blankAt link parent
   pub slot : FreeSlot w link free next
 
 unfoldable pub InsertionPlanned : List Cause → List ℕ → Request → Insertion → Type 0
 InsertionPlanned causes w r (insertion.Refused f) = firstFault causes ≡ some f
-InsertionPlanned causes w r (insertion.At link free next) = Insertable causes w r link free next
+InsertionPlanned causes w r (insertion.At link parent free next) = Insertable causes w r link parent free next
 
 abbrev pub SlotPlanned : List ℕ → Request → Insertion → Type 0
 SlotPlanned w r = InsertionPlanned (slotOrder w r) w r

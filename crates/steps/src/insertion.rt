@@ -20,10 +20,15 @@ use pool::layout::FREE;
 use pool::layout::field;
 use pool::layout::wide;
 
-// What grant is to do, once all walks and tests are done: refuse, or hang the free head's cell at the place of a blank link.
+// What grant is to do, once all walks and tests are done: refuse, or hang the free head's cell at the place of a blank link, the parent's.
 pub enum Insertion {
     Refused(Fault),
-    At { link: usize, free: usize, next: u16 },
+    At {
+        link: usize,
+        parent: usize,
+        free: usize,
+        next: u16,
+    },
 }
 
 // The grant of a request whose kind is known.
@@ -51,12 +56,13 @@ fn plan_free(
     pool: &[u16],
     cells: usize,
     link: usize,
+    parent: usize,
     number: u16,
     rank: u8,
     kind: u8,
     bounds: Box,
 ) -> Insertion
-    requires { ⌜ Sized (now pool) cells × (insertionWalk (now pool) (request number rank kind bounds) ≡ blankAt link) ⌝ }
+    requires { ⌜ Sized (now pool) cells × (insertionWalk (now pool) (request number rank kind bounds) ≡ blankAt link parent) ⌝ }
     ensures { λ r. ⌜ SlotPlanned (now (pool .entry)) (request number rank kind bounds) r ⌝ }
 {
     let free = wide(pool[FREE]);
@@ -70,7 +76,12 @@ fn plan_free(
     if cells < wide(next) {
         return Insertion::Refused(Fault::BrokenLinks);
     }
-    Insertion::At { link, free, next }
+    Insertion::At {
+        link,
+        parent,
+        free,
+        next,
+    }
 }
 
 // The way down, and then the free head: what is left where the number isn't found.
@@ -88,7 +99,9 @@ pub fn plan_slot(
     let slot = find_slot(pool, cells, point_of(requested(number, rank, kind, bounds)));
     match slot {
         Slot::Broken => Insertion::Refused(Fault::BrokenLinks),
-        Slot::At(link) => plan_free(pool, cells, link, number, rank, kind, bounds),
+        Slot::At { link, parent } => {
+            plan_free(pool, cells, link, parent, number, rank, kind, bounds)
+        }
     }
 }
 
@@ -101,6 +114,11 @@ pub fn add(pool: &mut [u16], cells: usize, g: Grant)
     let plan = plan_slot(pool, cells, g.number, g.rank, kind_number(kind), g.bounds);
     match plan {
         Insertion::Refused(_) => {}
-        Insertion::At { link, free, next } => insert(pool, link, free, next, g),
+        Insertion::At {
+            link,
+            parent: _,
+            free,
+            next,
+        } => insert(pool, link, free, next, g),
     }
 }

@@ -16,15 +16,15 @@ use Rattle.adt.proofs.insert.find_slot.Statement.{statement}
 use Rattle.adt.proofs.insert.find_slot.Tie as tie
 
 abbrev Inv-loop : tie.InvT-loop
-Inv-loop pool cells point region₀ link₀ below₀ met₀ region link below met =
+Inv-loop pool cells point region₀ parent₀ link₀ below₀ met₀ region parent link below met =
     (below ≤ 113)
     × (link < length pool)
     × (met ≤ cells)
     × Shape region
-    × (descendFrom pool cells point below link region met ≡ descend pool point)
+    × (descendFrom pool cells point below parent link region met ≡ descend pool point)
 
 abbrev μ-loop : tie.MeasureT-loop
-μ-loop pool cells point region₀ link₀ below₀ met₀ region link below met = below
+μ-loop pool cells point region₀ parent₀ link₀ below₀ met₀ region parent link below met = below
 
 root-region-requires : tie.Need-root-region-requires Inv-loop μ-loop
 root-region-requires c κs = search needs
@@ -55,14 +55,14 @@ returns : tie.Need-returns Inv-loop μ-loop
 returns c =
     let read = c .before in
     let inner = read .before .before in
-    descent-blank _ _ _ _ _ _ _ _ (inner .loop-test .taken) (read .wide .ensures .0) (c .if1 .taken) ∙ inner .before .loop .inv .4
+    descent-blank _ _ _ _ _ _ _ _ _ (inner .loop-test .taken) (read .wide .ensures .0) (c .if1 .taken) ∙ inner .before .loop .inv .4
 
 returns-2 : tie.Need-returns-2 Inv-loop μ-loop
 returns-2 c =
     let one = c .before in
     let read = one .before in
     let inner = read .before .before in
-    descent-above _ _ _ _ _ _ _ _ (inner .loop-test .taken) (read .wide .ensures .0) (one .if1 .left) (c .if2 .taken)
+    descent-above _ _ _ _ _ _ _ _ _ (inner .loop-test .taken) (read .wide .ensures .0) (one .if1 .left) (c .if2 .taken)
     ∙ inner .before .loop .inv .4
 
 returns-3 : tie.Need-returns-3 Inv-loop μ-loop
@@ -71,7 +71,7 @@ returns-3 c =
     let one = two .before in
     let read = one .before in
     let inner = read .before .before in
-    descent-full _ _ _ _ _ _ _ _ (inner .loop-test .taken) (read .wide .ensures .0) (one .if1 .left) (two .if2 .left) (c .if3 .taken)
+    descent-full _ _ _ _ _ _ _ _ _ (inner .loop-test .taken) (read .wide .ensures .0) (one .if1 .left) (two .if2 .left) (c .if3 .taken)
     ∙ inner .before .loop .inv .4
 
 sub-axis-of : tie.Need-sub-axis-of Inv-loop μ-loop
@@ -143,13 +143,13 @@ loop-again c =
       omega (arith, c .link-place .ensures .1, p .long, two .if2 .left),
       omega (arith, three .if3 .left),
       subst Shape (sym half) (half-shape _ (l .region) _ (l .inv .3) (axis .1)),
-      descent-next _ _ _ _ _ _ _ _ (inner .loop-test .taken) (read .wide .ensures .0) (one .if1 .left) (two .if2 .left) (three .if3 .left)
+      descent-next _ _ _ _ _ _ _ _ _ (inner .loop-test .taken) (read .wide .ensures .0) (one .if1 .left) (two .if2 .left) (three .if3 .left)
           (axis .0) (sided .side-of .ensures) half (c .link-place .ensures .0)
           ∙ l .inv .4,
     )
 
 returns-4 : tie.Need-returns-4 Inv-loop μ-loop
-returns-4 c = descent-end _ _ _ _ _ _ _ (c .loop-test .left) ∙ c .before .loop .inv .4
+returns-4 c = descent-end _ _ _ _ _ _ _ _ (c .loop-test .left) ∙ c .before .loop .inv .4
 
 pub find-slot-spec : {M : Type 1} → statement M
 find-slot-spec =

@@ -1,6 +1,6 @@
 -- `cell::store_cell` meets its contract. The invariant: the words passed are stored, one after the other. Assumes nothing.
 use Rattle.pool.proofs.StoreLaws.{store-again, store-done}
-use Rattle.pool.specs.Layout.{place}
+use Rattle.pool.specs.Layout.{cellWords, place}
 use lib.Seq.{sets}
 use lib.ListN.{length, take, length-set}
 use native.Mathlib.Omega.{arith}
@@ -12,10 +12,10 @@ use Rattle.pool.proofs.cell.store_cell.Tie as tie
 
 abbrev Inv-loop : tie.InvT-loop
 Inv-loop pool₀ cell words at i₀ pool i =
-    (i ≤ 10) × (at + 10 ≤ length pool) × (length words ≡ 10) × (length pool ≡ length pool₀) × (pool ≡ sets pool₀ at (take i words))
+    (i ≤ cellWords) × (at + cellWords ≤ length pool) × (length words ≡ cellWords) × (length pool ≡ length pool₀) × (pool ≡ sets pool₀ at (take i words))
 
 abbrev μ-loop : tie.MeasureT-loop
-μ-loop pool₀ cell words at i₀ pool i = 10 - i
+μ-loop pool₀ cell words at i₀ pool i = cellWords - i
 
 place-of-requires : tie.Need-place-of-requires Inv-loop μ-loop
 place-of-requires c κs = search needs

@@ -32,7 +32,7 @@ insert-requires c κs =
     let kinded = planned .before in
     let a = kinded .before .before .before .args in
     let same = same-request (a .g) (kinded .kind-number .ensures .0) in
-    plan-inserts (a .pool .now) (requestOf (a .g)) _ _ _ _
+    plan-inserts (a .pool .now) (requestOf (a .g)) _ _ _ _ _
     (planned-as (a .pool .now) same (c .before .before .plan .given .1) (planned .plan-slot .ensures))
 
 same-length : tie.Need-same-length
@@ -57,7 +57,7 @@ returns-2 c =
     let kinded = planned .before in
     let a = kinded .before .before .before .args in
     let same = same-request (a .g) (kinded .kind-number .ensures .0) in
-    added-done (a .pool .now) (requestOf (a .g)) _ _ _ (planned-as (a .pool .now) same (told .plan .given .1) (planned .plan-slot .ensures))
+    added-done (a .pool .now) (requestOf (a .g)) _ _ _ _ (planned-as (a .pool .now) same (told .plan .given .1) (planned .plan-slot .ensures))
     (stored .insert .ensures ∙ ap (inserted (a .pool .now) _) (sym (requested-requestOf (a .g))))
 
 pub add-spec : {M : Type 1} → statement M

@@ -1,9 +1,7 @@
--- The words of a cell from the number on, as a part of the pool.
---   fieldWords w k            the cell's fields from the number on
---   slice-fieldWords          they are that part of the pool
---   slice-cell                the whole cell, with its links
---   fieldWords-same           where the words are the same
---   fieldWords-withCell       of a cell that was stored
+-- The words of a cell: all of them as a part of the pool, and those that carry its grant.
+--   slice-cell             the part of the pool that a cell is, field by field
+--   wordsAt-same           the grant's words, where its fields are the same
+--   wordsAt-withCell       of a cell that was stored
 -- Assumes nothing.
 use Prim.Native.Nat.{ℕ, suc, _<_, _≤_}
 use mathlib.Core.Path.{_≡_, refl, ap, _∙_}
@@ -16,14 +14,9 @@ use Rattle.pool.specs.declared.Field.{Field}
 use Rattle.pool.specs.declared.Field.the-variants.{Left, Right, Number, RankKind, StaffFrom, StaffTo, DoorFrom, DoorTo, QuarterFrom, QuarterTo}
 use Rattle.pool.specs.Layout.{offset, place, fieldOf}
 use Rattle.pool.specs.Capacity.{poolLength}
-use Rattle.pool.specs.Cell.{grantWords, cellOf, withCell}
+use Rattle.pool.specs.Cell.{wordsAt, grantWords, cellOf, withCell}
 use Rattle.pool.proofs.LayoutLaws.{offset-lt}
 use Rattle.pool.proofs.CellLaws.{SameGrantWords, field-withCell-same}
-
-abbrev pub fieldWords : List ℕ → ℕ → List ℕ
-fieldWords w k =
-    fieldOf w k Number ∷ fieldOf w k RankKind ∷ fieldOf w k StaffFrom ∷ fieldOf w k StaffTo
-    ∷ fieldOf w k DoorFrom ∷ fieldOf w k DoorTo ∷ fieldOf w k QuarterFrom ∷ fieldOf w k QuarterTo ∷ []
 
 place-next : (k : ℕ) (f : Field) → 0 < k → place k f < place (suc k) Left
 unfolding place
@@ -55,9 +48,11 @@ module _ (w : List ℕ) (c k : ℕ) (pos : 0 < k) (le : k ≤ c) (long : length 
   unfolding place
   last = omega arith
 
-  pub slice-fieldWords : slice (place k Number) (place (suc k) Left) w ≡ fieldWords w k
-  slice-fieldWords =
+  pub slice-cell : slice (place k Left) (place (suc k) Left) w ≡ fieldOf w k Left ∷ fieldOf w k Right ∷ wordsAt w k
+  slice-cell =
       rw (
+        slice-field Left (place k Right) (next Left Right refl),
+        slice-field Right (place k Number) (next Right Number refl),
         slice-field Number (place k RankKind) (next Number RankKind refl),
         slice-field RankKind (place k StaffFrom) (next RankKind StaffFrom refl),
         slice-field StaffFrom (place k StaffTo) (next StaffFrom StaffTo refl),
@@ -69,26 +64,13 @@ module _ (w : List ℕ) (c k : ℕ) (pos : 0 < k) (le : k ≤ c) (long : length 
         slice-empty (place (suc k) Left) w,
       ) refl
 
-  pub slice-cell : slice (place k Left) (place (suc k) Left) w ≡ fieldOf w k Left ∷ fieldOf w k Right ∷ fieldWords w k
-  slice-cell =
-      rw (slice-field Left (place k Right) (next Left Right refl), slice-field Right (place k Number) (next Right Number refl), slice-fieldWords) refl
+pub wordsAt-same : (w v : List ℕ) (k : ℕ) → SameGrantWords w v k → wordsAt v k ≡ wordsAt w k
+wordsAt-same w v k same =
+    cc (same Number tt, same RankKind tt, same StaffFrom tt, same StaffTo tt, same DoorFrom tt, same DoorTo tt, same QuarterFrom tt, same QuarterTo tt)
 
-pub fieldWords-same : (w v : List ℕ) (k : ℕ) → SameGrantWords w v k → fieldWords v k ≡ fieldWords w k
-fieldWords-same w v k same =
-    cc (
-      same Number (omega arith),
-      same RankKind (omega arith),
-      same StaffFrom (omega arith),
-      same StaffTo (omega arith),
-      same DoorFrom (omega arith),
-      same DoorTo (omega arith),
-      same QuarterFrom (omega arith),
-      same QuarterTo (omega arith),
-    )
-
-pub fieldWords-withCell : (w : List ℕ) (c k l r : ℕ) (g : Grant) → 0 < k → k ≤ c → length w ≡ poolLength c
-    → fieldWords (withCell w k (cellOf l r g)) k ≡ grantWords g
-fieldWords-withCell w c k l r g pos le long =
+pub wordsAt-withCell : (w : List ℕ) (c k l r : ℕ) (g : Grant) → 0 < k → k ≤ c → length w ≡ poolLength c
+    → wordsAt (withCell w k (cellOf l r g)) k ≡ grantWords g
+wordsAt-withCell w c k l r g pos le long =
     let v = withCell w k (cellOf l r g) in
     let at : (f : Field) → fieldOf v k f ≡ getD (cellOf l r g) (offset f) 0 = λ f. field-withCell-same w k (cellOf l r g) refl c f pos le long in
     rw (at Number, at RankKind, at StaffFrom, at StaffTo, at DoorFrom, at DoorTo, at QuarterFrom, at QuarterTo) refl
