@@ -1,17 +1,22 @@
 /* The grant index for C: each call is the proved entry point of its name, lg_list and lg_list_holding are list's under its two choices
- * (document 01, "The plain book", "The grants file" and "Faults"; document 02, "Show grants that cover the entire shift" and "Door record
- * against panel record").
+ * (document 01, "The plain book", "The tree", "The grants file" and "Faults"; document 02, "Show grants that cover the entire shift", "Each
+ * cell knows its father" and "Door record against panel record").
  *
  * Link with libc_api.a.
  *
  * Ranges of quarters are half-open, in grants and in the boxes of lg_list and lg_list_holding: quarter_from is covered, quarter_to is not.
- * Of staff and of doors, both ends belong to the range. The last quarter that a grant can cover is 65534. A pool has no mark: one that an
- * earlier library made has closed quarters, and nothing tells; make it anew.
+ * Of staff and of doors, both ends belong to the range. The last quarter that a grant can cover is 65534.
  *
  * A pool is `pool_words` words and nothing outside them. A file is `file_bytes` bytes. A record of openings is `door_bytes` or
  * `panel_bytes` bytes: entries of 8 bytes. Lengths are in elements. Each pointer must be valid for its length and aligned for its type,
  * and memory that a call may change must not overlap the call's other memory. Every call is safe on any contents: a pool that no call
  * made is refused (1, 9) or answered, and never followed outside its words.
+ *
+ * A pool of capacity C, 1 to 2048, is 3 + 11 x C words: C, the root's cell, the first free cell, and then cells 1 to C, of eleven words
+ * each. Those of a live grant's cell are its left child, its right child, number, rank x 2 + kind, staff from, staff to, door from, door to,
+ * quarter from, quarter to, and its parent: from there the parents lead up to the root's cell, whose own is 0. A link of 0 leads nowhere. A
+ * free cell has the next free one in its first word and zeros in the others. Cells of an earlier library had ten words, without the parent:
+ * its pools are refused (1). Make them anew.
  *
  * Threads: no call keeps state or takes a lock. Calls on memory of their own may run side by side. Calls that leave a pool as it was
  * (lg_list, lg_list_holding, lg_decide, lg_count, lg_write, lg_match) may share it. A call that changes it (lg_start, lg_grant, lg_revoke,
@@ -19,8 +24,8 @@
  * or a record of openings: calls may share them.
  *
  * Stack: no call allocates. A call needs at most LG_STACK_BYTES beside what its caller has on the stack, on any pool, file and record;
- * measured on x86-64 with the archive that `rt staticlib c_api` makes (tests/stack): lg_list and lg_list_holding 31,000 bytes, lg_write and
- * lg_match 26,700, lg_compare_openings 26,300, lg_grant, lg_revoke, lg_decide and lg_count 22,800, the others 1,400.
+ * measured on x86-64 with the archive that `rt staticlib c_api` makes (tests/stack): lg_list and lg_list_holding 32,740 bytes, lg_write and
+ * lg_match 28,500, lg_compare_openings 26,300, lg_grant, lg_revoke, lg_decide and lg_count 24,600, the others 1,400.
  *
  * Every call returns one word:
  *
@@ -38,7 +43,8 @@
  *      6  no cell is free; in lg_load, the file has more grants than the pool has cells
  *      7  the number is not live
  *      8  the list is too short; a = count needed
- *      9  the pool's links are broken: one leads outside the cells, too deep, or to more cells than there are
+ *      9  the pool's links are broken: one leads outside the cells, too deep, to more cells than there are, or to a cell whose parent is
+ *         another than the cell that it leads from (the root's is 0)
  *     10  the file is not 1 to 68 whole blocks, or the block is not in it
  *     11  a block's mark, number, record count or fill is wrong, or in block 0 its n, the block count or the door order; b = the block.
  *         The mark is LGF2. A file with the older mark, LGF1, has closed quarters: it must be cut anew
@@ -71,7 +77,7 @@ extern "C" {
 #define LG_LEFT_IN_DOOR(word) (LG_B(word) >> 16)
 #define LG_LEFT_IN_PANEL(word) (LG_B(word) & 0xFFFFu)
 
-/* Makes an empty index in memory of a pool's length: 3 + 10 x C words for a capacity C of 1 to 2048. The words that it held
+/* Makes an empty index in memory of a pool's length: 3 + 11 x C words for a capacity C of 1 to 2048. The words that it held
  * do not matter.
  * Refuses 1. Leaves: an empty pool. */
 uint64_t lg_start(uint16_t *pool, size_t pool_words);

@@ -1,4 +1,5 @@
-// The proved library, through include/lg.h. With BEFORE, an archive that it is held against, whose functions are named before_lg_*.
+// The proved library, through include/lg.h. With BEFORE, an archive that it is held against, whose functions are named before_lg_*, and
+// whose cells may have another number of words.
 #ifdef BEFORE
 #define lg_start before_lg_start
 #define lg_grant before_lg_grant
@@ -13,6 +14,10 @@
 #else
 #define NAME "library"
 #define MAKE make_library
+#endif
+
+#ifndef CELL_WORDS
+#define CELL_WORDS 11
 #endif
 
 #include "../engine.hpp"
@@ -31,7 +36,7 @@ public:
 
     void start(size_t capacity) override
     {
-        pool.assign(3 + 10 * capacity, 0);
+        pool.assign(3 + CELL_WORDS * capacity, 0);
         accepted("start", lg_start(pool.data(), pool.size()));
     }
 

@@ -59,17 +59,17 @@ public:
     unsigned grant(const Grant &grant) override
     {
         Spot spot;
-        size_t link;
+        Blank blank;
         bool live;
         if (!find(grant.number, live, spot))
             return 9;
         if (live)
             return 5;
-        if (!tree.way_down(grant, link))
+        if (!tree.way_down(grant, blank))
             return 9;
         if (tree.full())
             return 6;
-        tree.insert(grant, link);
+        tree.insert(grant, blank);
         return 0;
     }
 
@@ -130,11 +130,11 @@ public:
             return 6;
         tree.start(tree.capacity());
         for (size_t i = 0; i < count_of(file); i++) {
-            size_t link;
+            Blank blank;
             Grant grant = record_of(file, i);
-            if (!tree.way_down(grant, link))
+            if (!tree.way_down(grant, blank))
                 return 9;
-            tree.insert(grant, link);
+            tree.insert(grant, blank);
         }
         return 0;
     }

@@ -1,9 +1,10 @@
 """The grant index for luggage lockers: functions over its C interface (include/lg.h), by ctypes alone.
 
 `Index` owns its memory, and threads may share one: it makes one call at a time. The functions make the same calls on a pool that the
-caller holds: any writable buffer of unsigned 16-bit words at an even address, as array.array("H"). There other threads run during a
-call, and the caller sees to it that readers alone share a pool and that a writer (start, grant, revoke, load) has it alone. `block` and
-`block_part` read one block of a grants file, `compare_openings` holds a door record against a panel record.
+caller holds: any writable buffer of unsigned 16-bit words at an even address, as array.array("H"), `pool_words(capacity)` of them;
+include/lg.h says what they are. There other threads run during a call, and the caller sees to it that readers alone share a pool and that
+a writer (start, grant, revoke, load) has it alone. `block` and `block_part` read one block of a grants file, `compare_openings` holds a
+door record against a panel record.
 
 A call that is refused raises `Refused` and leaves all memory as it was; a value that does not fit its field, and memory that can't be
 lent, raise ValueError before the library is asked.
@@ -210,6 +211,11 @@ def _unpack(word):
     return a, b
 
 
+def pool_words(capacity):
+    """How many words a pool of a capacity of 1 to 2048 has."""
+    return 3 + 11 * capacity
+
+
 def start(pool):
     """Makes an empty index, whatever the words were. Refuses 1."""
     address, length, _held = _words(pool)
@@ -316,7 +322,7 @@ class Index:
     def __init__(self, capacity):
         if not 1 <= operator.index(capacity) <= MOST_CELLS:
             raise ValueError("an index has 1 to {:,} cells, not {}".format(MOST_CELLS, capacity))
-        self.pool = array.array("H", bytes(2 * (3 + 10 * capacity)))
+        self.pool = array.array("H", bytes(2 * pool_words(capacity)))
         self._alone = threading.RLock()
         start(self.pool)
 

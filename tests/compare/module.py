@@ -125,8 +125,9 @@ def says(act, *parts):
 
 def try_memory():
     """A pool or a list at an odd address is refused, and is not changed; memory of no length may lie anywhere."""
-    memory = bytearray(b"\xa5" * (2 * 13 + 2))
-    odd = next(view for view in (memoryview(memory)[at : at + 26] for at in (0, 1)) if address_of(view) % 2).cast("H")
+    length = 2 * lg.pool_words(1)
+    memory = bytearray(b"\xa5" * (length + 2))
+    odd = next(view for view in (memoryview(memory)[at : at + length] for at in (0, 1)) if address_of(view) % 2).cast("H")
     pool = lg.Index(1).pool
     says(lambda: lg.start(odd), "even address", "%#x" % address_of(odd))
     says(lambda: lg.grant(odd, 1, 200, lg.OPENS, EVERYTHING), "even address")

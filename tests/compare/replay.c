@@ -10,7 +10,8 @@
 #include <stdlib.h>
 #include <string.h>
 
-enum { GUARDS = 16, GUARD = 0xA5 };
+/* The guards have the bytes of a cell, and more. */
+enum { GUARDS = 32, GUARD = 0xA5 };
 
 /* Memory with guards before and behind it that must stay. */
 struct memory {

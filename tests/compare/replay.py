@@ -13,7 +13,7 @@ import zlib
 sys.path.insert(0, os.path.join(os.path.dirname(os.path.abspath(__file__)), "..", "..", "bindings", "python"))
 import lg
 
-GUARDS = 8
+GUARDS = 16  # as many as the words of a cell, and more
 
 
 class Guarded:

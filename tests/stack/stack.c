@@ -11,12 +11,12 @@
 #include <string.h>
 #include <ucontext.h>
 
-enum { CELLS = 2048, WORDS = 3 + 10 * CELLS, FILE_BYTES = 512 * 68, LEVELS = 112, AXES = 7, PAINTED = 256 * 1024 };
+/* The words of a cell: two links, the number, rank and kind, the six ends of the box, and the parent. */
+enum { LEFT, RIGHT, NUMBER, RANK_KIND, STAFF_FROM, STAFF_TO, DOOR_FROM, DOOR_TO, QUARTER_FROM, QUARTER_TO, PARENT, CELL_WORDS };
+
+enum { CELLS = 2048, WORDS = 3 + CELL_WORDS * CELLS, FILE_BYTES = 512 * 68, LEVELS = 112, AXES = 7, PAINTED = 256 * 1024 };
 enum { MIDDLE = 32767, TOP = 65535 };
 enum { ENTRIES = 4096, ENTRY_BYTES = 8, RECORD_BYTES = ENTRY_BYTES * ENTRIES };
-
-/* The words of a cell: two links, the number, rank and kind, and the six ends of the box. */
-enum { LEFT, RIGHT, NUMBER, RANK_KIND, STAFF_FROM, STAFF_TO, DOOR_FROM, DOOR_TO, QUARTER_FROM, QUARTER_TO, CELL_WORDS };
 
 static uint16_t pool[WORDS], kept[WORDS], list[CELLS], decided[10];
 static uint8_t file[FILE_BYTES], bytes[FILE_BYTES], door_record[RECORD_BYTES], panel_record[RECORD_BYTES];
@@ -204,6 +204,13 @@ static int goes_right(unsigned level)
     return coordinates[level % AXES] >> (15 - level / AXES) & 1;
 }
 
+/* Hangs a cell below another, behind one of its links. */
+static void hang(unsigned parent, int link, unsigned child)
+{
+    cell(parent)[link] = (uint16_t)child;
+    cell(child)[PARENT] = (uint16_t)parent;
+}
+
 /* A scrambled pool: cells 1 to 113 hang below each other on the way to the point and the number, the last at level 112; the other
  * cells hang where the way does not go, one below the other too. All have the point; their numbers are equal or fall. */
 static void make_scrambled(int equal)
@@ -221,13 +228,15 @@ static void make_scrambled(int equal)
         words[RANK_KIND] = any() & 511;
     }
     for (unsigned level = 0; level < LEVELS; level++)
-        cell(level + 1)[goes_right(level) ? RIGHT : LEFT] = (uint16_t)(level + 2);
+        hang(level + 1, goes_right(level) ? RIGHT : LEFT, level + 2);
     unsigned next = LEVELS + 2;
     for (unsigned level = 0; level < LEVELS; level++) {
-        uint16_t *link = &cell(level + 1)[goes_right(level) ? LEFT : RIGHT];
+        unsigned parent = level + 1;
+        int link = goes_right(level) ? LEFT : RIGHT;
         for (unsigned below = level + 1; below <= LEVELS && next <= CELLS; below++) {
-            *link = (uint16_t)next;
-            link = &cell(next++)[below & 1 ? LEFT : RIGHT];
+            hang(parent, link, next);
+            parent = next++;
+            link = below & 1 ? LEFT : RIGHT;
         }
     }
 }

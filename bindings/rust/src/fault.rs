@@ -66,7 +66,7 @@ faults! {
     7 => NotLive, "the number is not live";
     /// the list is too short.
     8 => ListTooShort { needed: usize = a }, "the list is too short: {needed} needed";
-    /// the pool's links are broken.
+    /// the pool's links are broken: one leads outside the cells, too deep, to more cells than there are, or to a cell with another parent.
     9 => BrokenLinks, "the pool's links are broken";
     /// the file is not 1 to 68 whole blocks, or the block is not in it.
     10 => BadLength, "not 1 to 68 whole blocks, or no such block";

@@ -1,6 +1,6 @@
 //! The calls over a pool of words that the caller holds: on a mapped file, in shared memory, in a static array. A pool is
-//! 3 + 10 × C words for a capacity C of 1 to 2048 (`words`). Every call is safe on any words: a pool that no call made is refused
-//! or answered, never followed outside the slice.
+//! 3 + 11 × C words for a capacity C of 1 to 2048 (`words`); include/lg.h says what they are. Every call is safe on any words: a pool
+//! that no call made is refused or answered, never followed outside the slice.
 
 use crate::answer::{unpack, Count, Decision, Match};
 use crate::choice::Choice;
@@ -10,7 +10,7 @@ use crate::grant::{Bounds, Grant, HalfOpen, Kind, Span};
 
 /// How many words a pool of this capacity has.
 pub const fn words(capacity: u16) -> usize {
-    3 + 10 * capacity as usize
+    3 + 11 * capacity as usize
 }
 
 /// Makes an empty index, whatever the words were. Refuses 1.

@@ -1,5 +1,5 @@
 //! What the wrapper adds to the calls: a capacity that no index has is told as one, quarters have a type of their own that says which of
-//! them are covered, list's choice is one, and threads share an index by the language's rules.
+//! them are covered, list's choice is one, and threads share an index by the language's rules. An index's words are as include/lg.h has them.
 
 use locker_grants::{pool, BadCapacity, Bounds, Choice, Decision, Fault, Grant, HalfOpen, Index, Kind};
 
@@ -109,6 +109,28 @@ fn quarters_that_cover_nothing_are_refused() {
         }
     }
     assert_eq!(Fault::Reversed.to_string(), "a span ends before it starts, or quarters cover nothing");
+}
+
+#[test]
+fn parents_lead_from_each_grant_up_to_the_root() {
+    let mut index = Index::new(64).unwrap();
+    for number in 1..=64u16 {
+        let bounds = Bounds { staff: (number.wrapping_mul(4099), 65535), ..EVERYTHING };
+        index.grant(&Grant { number, rank: 255, kind: Kind::Opens, bounds }).unwrap();
+    }
+    (1..=64).step_by(3).for_each(|number| index.revoke(number).unwrap());
+    let words = index.words();
+    assert_eq!(words.len(), pool::words(64));
+    let cell = |k: u16| &words[3 + 11 * (usize::from(k) - 1)..][..11];
+    for live in (1..=64).filter(|k| cell(*k)[2] != 0) {
+        let mut k = live;
+        while cell(k)[10] != 0 {
+            let parent = cell(k)[10];
+            assert!(cell(parent)[..2].contains(&k), "cell {parent} has no link to {k}");
+            k = parent;
+        }
+        assert_eq!(k, words[1], "from cell {live}");
+    }
 }
 
 #[test]

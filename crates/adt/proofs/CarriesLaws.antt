@@ -4,7 +4,7 @@
 --   carries-removed      each cell left carries what it carried
 -- Assumes nothing.
 use Prim.Native.Nat.{ℕ}
-use mathlib.Core.Path.{_≡_, refl, _∙_}
+use mathlib.Core.Path.{refl, _∙_}
 use mathlib.Core.List.{List, _∷_, List·Memᴰ, List·Memᴰ·head, Memᴰ·append-right}
 use Rattle.model.specs.declared.Grant.{Grant}
 use Rattle.pool.specs.Cell.{cellOf, withCell}
@@ -23,7 +23,7 @@ module _ {w v : List ℕ} {c : ℕ} {t : Tree} {k : ℕ} {ks : List ℕ} {g : Gr
   pub carries-inserted : Carries v k g
   carries-inserted =
       let b = linked-upto h k (Memᴰ·append-right (cellsOf t) (List·Memᴰ·head refl)) in
-      wordsAt-same (withCell w k (cellOf 0 0 g)) v k (i .grant-words) ∙ wordsAt-withCell w c k 0 0 g (b .0) (b .1) (h .long)
+      wordsAt-same (withCell w k (cellOf 0 0 g (i .parent))) v k (i .grant-words) ∙ wordsAt-withCell w c k 0 0 g (i .parent) (b .0) (b .1) (h .long)
 
   pub carries-inserted-other : (j : ℕ) (f : Grant) → List·Memᴰ j (cellsOf t) → Carries w j f → Carries v j f
   carries-inserted-other j f m = carries-same w v j f (i .other-words j m)

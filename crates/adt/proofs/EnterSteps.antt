@@ -1,21 +1,22 @@
 -- The search's two steps, case by case: what `enter` gives by its tests, and how a visit is made of three steps.
---   enter-blank, enter-deep, enter-apart, enter-above, enter-visits    the tests of `enter`, in their order
+--   enter-blank, enter-deep, enter-apart, enter-above, enter-other, enter-visits    the tests of `enter`, in their order
 --   enter-broken                                                       a broken walk goes no further
 --   stands-as, encodes-as                                              what the memory stands for, once the answer is known
 --   child-some                                                         a link that is not blank leads to a cell
---   ChildRegion, child-half                                            the region that `enter` hands on
---   child-blank                                                        what the memory stands for where nothing hangs on a side
---   child-deep, child-apart, child-past, child-visited                 and after each test of `enter` there
+--   ChildAt, child-meets, child-half, child-root                       the link and the region that `enter` goes on with: at the root the root's
+--   child-deep, child-apart, child-past, child-other, child-visited    what the memory stands for after each test of `enter`
+--   subtree                                                            the state of the search once the subtree of a cell on a side was entered
+--   subtree-blank, subtree-entered                                     what the memory stands for then: nothing hangs there, or `enter` was called
 --   visit-cut, visit-left-cut, visit-whole                             and after each step of `visit`
 -- Assumes nothing.
 use Prim.Native.Nat.{ℕ, zero, suc, _-_, _<_, _≤_}
 use mathlib.Core.Logic.{_≢_}
 use mathlib.Core.Path.{_≡_, refl, sym, ap, subst, _∙_}
-use mathlib.Core.Bool.{Bool, true, false, cond}
+use mathlib.Core.Bool.{Bool, true, false, cond, _&&_}
 use mathlib.Core.List.{List}
 use native.Mathlib.Numerals.{sub-one}
 use native.Mathlib.Omega.{arith}
-use lib.ListN.{getD, set}
+use lib.ListN.{length, getD, set}
 use borrow.Author.Tests.{le-leb, lt-leb, eq-eqb, ne-eqb}
 use lib.Dec.{leb}
 use Rattle.model.specs.declared.Grant.{Grant}
@@ -26,32 +27,54 @@ use Rattle.geometry.specs.Levels.{levels}
 use Rattle.geometry.specs.Region.{Region, Shape, low, high, half, halfOf, meets}
 use Rattle.geometry.proofs.RegionLaws.{half-shape}
 use Rattle.geometry.proofs.HalfLaws.{set-halfOf}
-use Rattle.adt.specs.Node.{linkPlace}
+use Rattle.pool.specs.Layout.{rootPlace}
+use Rattle.adt.specs.Node.{linkPlace, parentAt, isParent}
 use Rattle.adt.specs.Search.{Spot, Search, broken, going, visitBy, enter}
-use Rattle.adt.specs.SearchMemory.{searchIn, Counted, Encodes, tested, visited, entered}
+use Rattle.adt.specs.SearchMemory.{searchIn, Counted, Encodes, linkEntered, regionEntered, tested, visited, entered}
 
 pub stands-as : {c : ℕ} {r b : Bool} {h t : List ℕ} {s : Search} → Encodes c r h t s → r ≡ b → searchIn b h t ≡ s
 stands-as {h = h} {t = t} d e = ap (λ (x : Bool). searchIn x h t) (sym e) ∙ d .state
 
--- r is the half of the region g on a side, at the level with n levels below, and meets the range
-pub record ChildRegion (q : Region) (n : ℕ) (s : Side) (g r : Region) : Type 0 where
-  pub same : r ≡ half s g (axisOf (levels - n))
+-- the place of the link that is gone through, and the region of the cell that it leads to, which meets the range
+pub record ChildAt (w : List ℕ) (q : Region) (n p : ℕ) (s : Side) (g r : Region) (link : ℕ) : Type 0 where
+  pub same : r ≡ regionEntered n s g
   pub shape : Shape r
   pub meeting : meets r q ≡ true
+  pub at : link ≡ linkEntered n p s
+  pub within : link < length w
 
-pub child-half : (q : Region) (n : ℕ) (s : Side) (g : Region) {a : ℕ} → a ≡ axisOf (levels - n) → a < axes → {answer : Bool} → answer ≡ meets (half s g a) q
-    → answer ≡ true → Shape g → {r : Region} → r ≡ set g a (halfOf s (low g a) (high g a)) → ChildRegion q n s g r
-child-half q n s g {a} axis in-axes met t shape e =
-    let halved = e ∙ set-halfOf s g a shape in-axes in
-    record {
-      same = halved ∙ rw axis;
-      shape = subst Shape (sym halved) (half-shape s g a shape in-axes);
-      meeting = subst (λ (r : Region). meets r q ≡ true) (sym halved) (sym met ∙ t);
-    }
+module _ (w : List ℕ) (q : Region) (n p : ℕ) (s : Side) (g : Region) where
+  -- the answer about the half, on the axis of the level
+  module _ (few : n ≤ levels) {a : ℕ} (axis : a ≡ axisOf (levels - n)) {answer : Bool} (met : answer ≡ meets (half s g a) q) where
+    pub child-meets : meets (regionEntered n s g) q ≡ answer
+    child-meets = rw (le-leb n levels few, ← axis) (sym met)
+
+    pub child-half : a < axes → Shape g → answer ≡ true → {r : Region} → r ≡ set g a (halfOf s (low g a) (high g a)) → {link : ℕ} → link ≡ linkPlace p s
+        → link < length w → ChildAt w q n p s g r link
+    child-half in-axes shape t e place lt =
+        let halved = e ∙ set-halfOf s g a shape in-axes in
+        record {
+          same = halved ∙ rw (axis, le-leb n levels few);
+          shape = subst Shape (sym halved) (half-shape s g a shape in-axes);
+          meeting = subst (λ (r : Region). meets r q ≡ true) (sym halved) (sym met ∙ t);
+          at = place ∙ rw (le-leb n levels few);
+          within = lt;
+        }
+
+  pub child-root : levels < n → Shape g → meets g q ≡ true → {r : Region} → r ≡ g → {link : ℕ} → link ≡ rootPlace → link < length w
+      → ChildAt w q n p s g r link
+  child-root past shape met e place lt =
+      record {
+        same = e ∙ rw (lt-leb n levels past);
+        shape = subst Shape (sym e) shape;
+        meeting = subst (λ (r : Region). meets r q ≡ true) (sym e) met;
+        at = place ∙ rw (lt-leb n levels past);
+        within = lt;
+      }
 
 -- a link that is not blank leads to a cell
-pub child-some : (w : List ℕ) (p : ℕ) (s : Side) → getD w (linkPlace p s) 0 ≢ 0 → {k link : ℕ} → link ≡ linkPlace p s → k ≡ getD w link 0 → 0 < k
-child-some w p s leads {k} at e =
+pub child-some : (w : List ℕ) {i k link : ℕ} → getD w i 0 ≢ 0 → link ≡ i → k ≡ getD w link 0 → 0 < k
+child-some w {k = k} leads at e =
     let nz : ¬ (k ≡ 0) = λ z. leads (ap (λ (l : ℕ). getD w l 0) (sym at) ∙ sym e ∙ z) in
     omega (arith, nz)
 
@@ -83,7 +106,7 @@ module _ (w : List ℕ) (c : ℕ) (q : Region) (passes : Grant → Bool) where
         abbrev behind : ℕ → Search
         behind n =
             let here : Spot = record { level = levels - (n - 1); link = link } in
-            cond (meets g q) (cond (leb k c) (visitBy w c q passes (enter w c q passes (n - 1)) here k g now) broken) now
+            cond (meets g q) (cond (leb k c && isParent w from k) (visitBy w c q passes (enter w c q passes (n - 1)) here k g now) broken) now
 
         enter-cases : enter w c q passes n from link g now ≡ behind n
         unfolding enter
@@ -99,52 +122,64 @@ module _ (w : List ℕ) (c : ℕ) (q : Region) (passes : Grant → Bool) where
         pub enter-above : meets g q ≡ true → c < k → broken ≡ enter w c q passes n from link g now
         enter-above m a = sym (enter-cases ∙ rw (m, lt-leb k c a))
 
-        pub enter-visits : {h : Region} → h ≡ g → meets g q ≡ true → k ≤ c
+        pub enter-other : meets g q ≡ true → k ≤ c → ¬ (parentAt w k ≡ from) → broken ≡ enter w c q passes n from link g now
+        enter-other m a other = sym (enter-cases ∙ rw (m, le-leb k c a, ne-eqb (parentAt w k) from other))
+
+        pub enter-visits : {h : Region} → h ≡ g → meets g q ≡ true → k ≤ c → parentAt w k ≡ from
             → visitBy w c q passes (enter w c q passes (n - 1)) (record { level = levels - (n - 1); link = link }) k h now ≡ enter w c q passes n from link g now
-        enter-visits i m a = rw i (sym (enter-cases ∙ rw (m, le-leb k c a)))
+        enter-visits i m a named = rw i (sym (enter-cases ∙ rw (m, le-leb k c a, eq-eqb (parentAt w k) from named)))
 
   enter-broken : (n from link : ℕ) (g : Region) → enter w c q passes n from link g broken ≡ broken
   unfolding enter
   enter-broken zero from link g = refl
   enter-broken (suc n) from link g = refl
 
-  -- the subtree of the cell p, of the region g, on a side
-  module _ (n p : ℕ) (side : Side) (g : Region) {hits counters : List ℕ} (counted : Counted c hits counters) where
+  -- the link of the cell p on a side, which is not blank; p has the region g
+  module _ (n p : ℕ) (side : Side) (g : Region) {hits counters : List ℕ} (counted : Counted c hits counters) (leads : getD w (linkEntered n p side) 0 ≢ 0) where
     abbrev after : Search
     after = entered w c q passes hits counters n p side g
 
-    pub child-blank : getD w (linkPlace p side) 0 ≡ 0 → Encodes c true hits counters after
-    child-blank z = record { counted = counted; state = enter-blank n p _ _ _ refl _ _ _ z }
+    pub child-deep : n ≡ 0 → Encodes c false hits counters after
+    child-deep z = record { counted = counted; state = enter-deep n p _ _ _ refl _ _ _ leads z }
 
-    module _ (leads : getD w (linkPlace p side) 0 ≢ 0) where
-      pub child-deep : n ≡ 0 → Encodes c false hits counters after
-      child-deep z = record { counted = counted; state = enter-deep n p _ _ _ refl _ _ _ leads z }
+    module _ (some : ¬ (n ≡ 0)) where
+      pub child-apart : meets (regionEntered n side g) q ≡ false → Encodes c true hits counters after
+      child-apart m = record { counted = counted; state = enter-apart n p _ _ _ refl _ _ _ leads some m }
 
-      module _ (some : ¬ (n ≡ 0)) where
-        pub child-apart : {a : ℕ} → a ≡ axisOf (levels - n) → {answer : Bool} → answer ≡ meets (half side g a) q → answer ≡ false
-            → Encodes c true hits counters after
-        child-apart axis met f = record { counted = counted; state = enter-apart n p _ _ _ refl _ _ _ leads some (rw (← axis) (sym met ∙ f)) }
+      -- it leads to the cell k, of the region r
+      module _ {k link : ℕ} {r : Region} (child : ChildAt w q n p side g r link) (e : k ≡ getD w link 0) where
+        leads-to : k ≡ getD w (linkEntered n p side) 0
+        leads-to = e ∙ ap (λ (l : ℕ). getD w l 0) (child .at)
 
-        -- the link leads to the cell k, of the region r
-        module _ {k link : ℕ} (at : link ≡ linkPlace p side) (e : k ≡ getD w link 0) {r : Region} (child : ChildRegion q n side g r) where
-          leads-to : k ≡ getD w (linkPlace p side) 0
-          leads-to = e ∙ ap (λ (l : ℕ). getD w l 0) at
+        nz : ¬ (k ≡ 0)
+        nz z = leads (sym leads-to ∙ z)
 
-          nz : ¬ (k ≡ 0)
-          nz z = leads (sym leads-to ∙ z)
+        meeting : meets (regionEntered n side g) q ≡ true
+        meeting = subst (λ (x : Region). meets x q ≡ true) (child .same) (child .meeting)
 
-          meeting : meets (half side g (axisOf (levels - n))) q ≡ true
-          meeting = subst (λ (x : Region). meets x q ≡ true) (child .same) (child .meeting)
+        pub child-past : c < k → Encodes c false hits counters after
+        child-past past = record { counted = counted; state = enter-above n p _ k _ leads-to _ _ _ nz some meeting past }
 
-          pub child-past : c < k → Encodes c false hits counters after
-          child-past past = record { counted = counted; state = enter-above n p _ k _ leads-to _ _ _ nz some meeting past }
+        pub child-other : k ≤ c → ¬ (parentAt w k ≡ p) → Encodes c false hits counters after
+        child-other few other = record { counted = counted; state = enter-other n p _ k _ leads-to _ _ _ nz some meeting few other }
 
-          pub child-visited : k ≤ c → {b : Bool} {hits′ counters′ : List ℕ}
-              → Encodes c b hits′ counters′ (visited w c q passes hits counters k (n - 1) link r) → Encodes c b hits′ counters′ after
-          child-visited few v = record {
-            counted = v .counted;
-            state = v .state ∙ rw at (enter-visits n p _ k _ leads-to _ _ _ nz some (child .same) meeting few);
-          }
+        pub child-visited : k ≤ c → parentAt w k ≡ p → {b : Bool} {hits′ counters′ : List ℕ}
+            → Encodes c b hits′ counters′ (visited w c q passes hits counters k (n - 1) link r) → Encodes c b hits′ counters′ after
+        child-visited few named v = record {
+          counted = v .counted;
+          state = v .state ∙ rw (child .at) (enter-visits n p _ k _ leads-to _ _ _ nz some (child .same) meeting few named);
+        }
+
+  -- the subtree of the cell k, of the region g, on a side
+  module _ (n k : ℕ) (side : Side) (g : Region) (hits counters : List ℕ) where
+    abbrev pub subtree : Search
+    subtree = enter w c q passes n k (linkPlace k side) (half side g (axisOf (levels - n))) (searchIn true hits counters)
+
+    pub subtree-blank : getD w (linkPlace k side) 0 ≡ 0 → Counted c hits counters → Encodes c true hits counters subtree
+    subtree-blank z counted = record { counted = counted; state = enter-blank n k _ _ _ refl _ _ _ z }
+
+    pub subtree-entered : n ≤ levels → {r : Bool} {h t : List ℕ} → Encodes c r h t (entered w c q passes hits counters n k side g) → Encodes c r h t subtree
+    subtree-entered few d = record { counted = d .counted; state = d .state ∙ rw (le-leb n levels few) }
 
   -- the three steps of a visit of the cell k, from what the memory stands for after each
   module _ (n link k : ℕ) (g : Region) (hits counters : List ℕ) where
@@ -158,10 +193,10 @@ module _ (w : List ℕ) (c : ℕ) (q : Region) (passes : Grant → Bool) where
       pub visit-cut : r ≡ false → Encodes c false h t (visited w c q passes hits counters k n link g)
       visit-cut e = record { counted = d .counted; state = steps (stands-as d e) (sym (enter-broken n _ _ _)) (sym (enter-broken n _ _ _)) }
 
-      module _ (going : r ≡ true) {r₂ : Bool} {h₂ t₂ : List ℕ} (d₂ : Encodes c r₂ h₂ t₂ (entered w c q passes h t n k Left g)) where
+      module _ (going : r ≡ true) {r₂ : Bool} {h₂ t₂ : List ℕ} (d₂ : Encodes c r₂ h₂ t₂ (subtree n k Left g h t)) where
         pub visit-left-cut : r₂ ≡ false → Encodes c false h₂ t₂ (visited w c q passes hits counters k n link g)
         visit-left-cut e = record { counted = d₂ .counted; state = steps (stands-as d going) (stands-as d₂ e) (sym (enter-broken n _ _ _)) }
 
-        pub visit-whole : r₂ ≡ true → {r₃ : Bool} {h₃ t₃ : List ℕ} → Encodes c r₃ h₃ t₃ (entered w c q passes h₂ t₂ n k Right g)
+        pub visit-whole : r₂ ≡ true → {r₃ : Bool} {h₃ t₃ : List ℕ} → Encodes c r₃ h₃ t₃ (subtree n k Right g h₂ t₂)
             → Encodes c r₃ h₃ t₃ (visited w c q passes hits counters k n link g)
         visit-whole e d₃ = record { counted = d₃ .counted; state = steps (stands-as d going) (stands-as d₂ e) (d₃ .state) }

@@ -1,4 +1,5 @@
 -- A part of a tree exchanged for another tree.
+--   other s, other-other, by-side     the other side
 --   exchanged p x           the tree with x in place of the part
 --   outside p               the cells outside of the part
 --   exchanged-same          a part in its own place
@@ -36,6 +37,17 @@ use Rattle.adt.proofs.FrameLaws.{inside-same, spells-frame}
 abbrev pub other : Side → Side
 other Left = Right
 other Right = Left
+
+pub other-other : (s : Side) → other (other s) ≡ s
+other-other Left = refl
+other-other Right = refl
+
+-- what holds of a side and of the other holds of both
+pub by-side : (P : Side → Type 0) (s : Side) → P s → P (other s) → (z : Side) → P z
+by-side P Left a b Left = a
+by-side P Left a b Right = b
+by-side P Right a b Left = b
+by-side P Right a b Right = a
 
 -- the node k of the children l and r, with x on a side
 abbrev pub withSon : Side → ℕ → Tree → Tree → Tree → Tree

@@ -15,10 +15,12 @@ use Rattle.geometry.specs.declared.Side.the-variants.{Left, Right}
 use Rattle.geometry.specs.Levels.{levels}
 use Rattle.geometry.specs.Region.{Region}
 use Rattle.pool.specs.Layout.{rootPlace}
-use Rattle.adt.specs.Node.{linkPlace}
+use Rattle.adt.specs.Node.{linkPlace, parentAt}
 use Rattle.adt.specs.Search.{Spot}
 use Rattle.adt.specs.Remove.{terminal, nextLink, follow, terminalFrom}
 use Rattle.adt.proofs.Spells.{Tree, blank, node, cellsOf, size, Spells, spells-blank, spells-node}
+use Rattle.adt.proofs.Parents.{Parented, parented-first, parented-child}
+use Rattle.adt.proofs.ParentParts.{parented-part}
 use Rattle.adt.proofs.TreeLaws.{child, spells-child, cells-size}
 use Rattle.adt.proofs.PartLaws.{Part, part-here, part-child, HangsAt, hangs-below}
 use Rattle.adt.proofs.PartRegion.{region-spells}
@@ -69,10 +71,11 @@ module _ (w : List ℕ) (c : ℕ) where
   follow-none (suc n) k at met e = rw e refl
 
   -- a child: on from there
-  follow-child : (n k at met j : ℕ) (s : Side) → nextLink w k ≡ linkPlace k s → getD w (linkPlace k s) 0 ≡ j → 0 < j → j ≤ c → met < c
+  follow-child : (n k at met j : ℕ) (s : Side) → nextLink w k ≡ linkPlace k s → getD w (linkPlace k s) 0 ≡ j → 0 < j → j ≤ c → met < c → parentAt w j ≡ k
       → follow w c (suc n) k at met ≡ follow w c n j (linkPlace k s) (suc met)
   unfolding follow
-  follow-child n k at met j s q e pos le lt = rw (q, e, ne-eqb j 0 (omega arith), le-leb j c le, lt-ltb met c lt) refl
+  follow-child n k at met j s q e pos le lt named =
+      rw (q, e, ne-eqb j 0 (omega arith), le-leb j c le, lt-ltb met c lt, eq-eqb (parentAt w j) k named) refl
 
 -- the same walk, from the cell before
 terminal-child : {w : List ℕ} {c n j met : ℕ} {x y : Tree} (k at : ℕ) (l r : Tree) (s : Side) → child s l r ≡ node j x y
@@ -82,27 +85,28 @@ terminal-child {n = n} k at l r s e f t =
     let part : Part (suc n) (linkPlace k s) (child s l r) (suc (t .below)) (t .leafAt) (node (t .leaf) blank blank) = rw e (t .part) in
     record { leaf = t .leaf; leafAt = t .leafAt; below = t .below; part = part-child s part; found = f ∙ t .found }
 
-pub follow-terminal : {w : List ℕ} {c j : ℕ} {g : Region} {l r : Tree} (n k at met : ℕ) → Spells w c (suc n) g j (node k l r) → met + size (node k l r) ≤ suc c
-    → Terminal w c n k at met l r
-follow-terminal {w} {c} {l = l} {r = r} zero k at met sp few = go (next-of k refl refl (spells-child Left sp) (spells-child Right sp))
+pub follow-terminal : {w : List ℕ} {c j p : ℕ} {g : Region} {l r : Tree} (n k at met : ℕ) → Spells w c (suc n) g j (node k l r)
+    → Parented w p (node k l r) → met + size (node k l r) ≤ suc c → Terminal w c n k at met l r
+follow-terminal {w} {c} {l = l} {r = r} zero k at met sp parents few = go (next-of k refl refl (spells-child Left sp) (spells-child Right sp))
   where
     go : Next w k l r → Terminal w c zero k at met l r
     go (next-none e f i) = rw (e, f) (terminal-here (follow-none w c zero k at met i))
     go (next-child s j x y e q) = absurd (no-node (rw e at (spells-child s sp)))
-follow-terminal {w} {c} {l = l} {r = r} (suc n) k at met sp few =
+follow-terminal {w} {c} {l = l} {r = r} (suc n) k at met sp parents few =
     go (λ s j x y i h. follow-terminal n j (linkPlace k s) (suc met)) (next-of k refl refl (spells-child Left sp) (spells-child Right sp))
   where
-    go : ((s : Side) (j : ℕ) (x y : Tree) (i : ℕ) (h : Region) → Spells w c (suc n) h i (node j x y)
+    go : ((s : Side) (j : ℕ) (x y : Tree) (i : ℕ) (h : Region) → Spells w c (suc n) h i (node j x y) → Parented w k (node j x y)
         → suc met + size (node j x y) ≤ suc c → Terminal w c n j (linkPlace k s) (suc met) x y)
         → Next w k l r → Terminal w c (suc n) k at met l r
     go ih (next-none e f i) = rw (e, f) (terminal-here (follow-none w c (suc n) k at met i))
     go ih (next-child s j x y e q) =
         let below = rw e at (spells-child s sp) in
         let first = spells-cell below in
+        let named = rw e at (parented-child s parents) in
         let small : size (node j x y) < size (node k l r) = rw e at (size-child s k l r) in
         terminal-child k at l r s e
-        (follow-child w c n k at met j s q (first .link) (first .pos) (first .le) (omega (arith, size-some j x y)))
-        (ih s j x y _ _ below (omega arith))
+        (follow-child w c n k at met j s q (first .link) (first .pos) (first .le) (omega (arith, size-some j x y)) (parented-first named))
+        (ih s j x y _ _ below named (omega arith))
 
 -- the whole walk from a cell that hangs in the tree
 module _ {w : List ℕ} {c : ℕ} {t : Tree} {ks : List ℕ} {k : ℕ} {spot : Spot} (linked : Linked w c t ks) (hangs : HangsAt (suc levels) rootPlace t k spot) where
@@ -114,7 +118,8 @@ module _ {w : List ℕ} {c : ℕ} {t : Tree} {ks : List ℕ} {k : ℕ} {spot : S
 
   pub terminalFrom-ends : Terminal w c (hangs .below) k (spot .link) 1 (hangs .left) (hangs .right)
   terminalFrom-ends =
-      follow-terminal (hangs .below) k (spot .link) 1 (region-spells (hangs .part) refl (linked .spells)) (omega (arith, part-few))
+      follow-terminal (hangs .below) k (spot .link) 1 (region-spells (hangs .part) refl (linked .spells))
+      (parented-part (hangs .part) (linked .parents)) (omega (arith, part-few))
 
   pub terminalFrom-terminal : terminalFrom w k spot ≡ terminal (terminalFrom-ends .leaf) (terminalFrom-ends .leafAt)
   unfolding terminalFrom

@@ -6,29 +6,28 @@
 use Prim.Native.Nat.{ℕ, zero, suc, _<_, _≤_}
 use mathlib.Core.Path.{_≡_, refl, sym, ap, subst}
 use mathlib.Core.Logic.{⊎-elim}
-use mathlib.Core.Bool.{Bool, true, false, cond, _||_}
+use mathlib.Core.Bool.{Bool, true, false, cond}
 use mathlib.Core.List.{List, [], _∷_, map, List·Memᴰ}
 use mathlib.Core.List.{List·Memᴰ·head, List·Memᴰ·tail, List·Memᴰ·cases-cons, List·Memᴰ·append-cases, List·Memᴰ·not-nil, List·Memᴰ·eq-of-singleton}
 use native.Mathlib.Omega.{arith}
-use lib.Dec.{eqb, ltb}
+use lib.Dec.{eqb}
 use lib.ListN.{length, take, getD}
 use lib.Seq.{getD-take, length-take-le}
-use borrow.Author.Tests.{eqb-false, ltb-false}
+use borrow.Author.Tests.{eqb-false}
 use Rattle.lists.specs.Tests.{any}
 use Rattle.lists.proofs.TestLaws.{filter-mem}
 use Rattle.lists.proofs.ElementLaws.{mem-getD}
 use Rattle.model.specs.declared.Grant.{Grant}
 use Rattle.geometry.specs.declared.Side.the-variants.{Left, Right}
 use Rattle.geometry.specs.Axis.{axisOf}
-use Rattle.geometry.specs.Levels.{levels}
 use Rattle.geometry.specs.Region.{Region, half, meets}
 use Rattle.model.specs.Limits.{maxGrants}
 use Rattle.pool.specs.Capacity.{capacityOf}
 use Rattle.adt.specs.Node.{linkPlace}
 use Rattle.adt.specs.Search.{Spot, going, searchBy}
 use Rattle.adt.specs.SearchMemory.{foundIn, Encodes}
-use Rattle.adt.specs.Links.{Link, brokenBy, searchFrom, searchLinks, isHit, hitsAmong}
-use Rattle.adt.proofs.LinkLaws.{or-left, or-right}
+use Rattle.adt.specs.Links.{Link, meetsCause, brokenBy, searchFrom, searchLinks, isHit, hitsAmong}
+use Rattle.adt.proofs.LinkLaws.{or-left, or-right, right-within}
 use Rattle.adt.proofs.SearchLinks.{search-going}
 
 -- a link is in a list that is empty unless a test passes
@@ -59,16 +58,15 @@ links-some w q (suc n) l from at g f m =
     (List·Memᴰ·cases-cons (v .1))
 
 -- no link of an unbroken walk is above C
-unbroken-below : (c : ℕ) (links : List Link) → any (λ link. ltb c (link .to) || ltb levels (link .level)) links ≡ false → (f : Link) → List·Memᴰ f links
-    → f .to ≤ c
+unbroken-below : (w : List ℕ) (c : ℕ) (links : List Link) → any (meetsCause w c) links ≡ false → (f : Link) → List·Memᴰ f links → f .to ≤ c
 unfolding any
-unbroken-below c [] e f m = absurd (List·Memᴰ·not-nil m)
-unbroken-below c (x ∷ links) e f m =
-    let here = or-left (ltb c (x .to) || ltb levels (x .level)) (any (λ link. ltb c (link .to) || ltb levels (link .level)) links) e in
-    let rest = or-right (ltb c (x .to) || ltb levels (x .level)) (any (λ link. ltb c (link .to) || ltb levels (link .level)) links) e in
+unbroken-below w c [] e f m = absurd (List·Memᴰ·not-nil m)
+unbroken-below w c (x ∷ links) e f m =
+    let here = right-within w c x (or-left (meetsCause w c x) (any (meetsCause w c) links) e) in
+    let rest = or-right (meetsCause w c x) (any (meetsCause w c) links) e in
     ⊎-elim
-    (λ q. let t : f .to ≡ x .to = ap (λ (k : Link). k .to) q in omega (arith, ltb-false c (x .to) (or-left (ltb c (x .to)) (ltb levels (x .level)) here)))
-    (λ r. unbroken-below c links rest f r)
+    (λ q. let t : f .to ≡ x .to = ap (λ (k : Link). k .to) q in omega (arith, here .low))
+    (λ r. unbroken-below w c links rest f r)
     (List·Memᴰ·cases-cons m)
 
 -- a member of a mapped list
@@ -92,7 +90,7 @@ hits-within w q passes met hits first e k m =
     let f = map-mem _ k (subst (List·Memᴰ k) (s .found) m) in
     let on = filter-mem (isHit w passes) _ (f .0) (f .2) .0 in
     let some = links-some w q _ _ _ _ _ (f .0) on in
-    let few = unbroken-below (capacityOf w) _ (or-left _ _ (s .whole)) (f .0) on in
+    let few = unbroken-below w (capacityOf w) _ (or-left _ _ (s .whole)) (f .0) on in
     record { some = subst (λ (x : ℕ). 0 < x) (f .1) some; few = subst (λ (x : ℕ). x ≤ capacityOf w) (f .1) few }
 
 pub stands-within : (w : List ℕ) (q : Region) (passes : Grant → Bool) {c : ℕ} {h t : List ℕ}

@@ -32,9 +32,9 @@ brokenInsertion-cond false x y = refl
 
 -- n levels are left below the parent, so the link leads to the level l
 pub descendFrom-broken : (w : List ℕ) (c : ℕ) (p : List ℕ) (n l from at : ℕ) (g : Region) (met : ℕ) → l + n ≡ suc levels → met ≤ c
-    → brokenInsertion (descendFrom w c p n from at g met) ≡ brokenBy c met (insertionFrom w p n l from at g)
+    → brokenInsertion (descendFrom w c p n from at g met) ≡ brokenBy w c met (insertionFrom w p n l from at g)
 unfolding descendFrom insertionFrom
-descendFrom-broken w c p zero l from at g met depth few = sym (brokenBy-deep c met (record { level = l; from = from; to = getD w at 0 }) [] (omega arith))
+descendFrom-broken w c p zero l from at g met depth few = sym (brokenBy-deep w c met (record { level = l; from = from; to = getD w at 0 }) [] (omega arith))
 descendFrom-broken w c p (suc n) l from at g met depth few =
     let k = getD w at 0 in
     let a = axisOf l in
@@ -43,9 +43,9 @@ descendFrom-broken w c p (suc n) l from at g met depth few =
     let rest = descendFrom-broken w c p n (suc l) k (linkPlace k s) (half s g a) (suc met) (omega arith) in
     let here : Link = record { level = l; from = from; to = k } in
     rw (level, brokenInsertion-cond, brokenInsertion-cond, brokenBy-blank)
-    (ap (cond (eqb k 0) false) (brokenBy-next c met here (insertionFrom w p n (suc l) k (linkPlace k s) (half s g a)) _ (omega arith) rest))
+    (ap (cond (eqb k 0) false) (brokenBy-next w c met here (insertionFrom w p n (suc l) k (linkPlace k s) (half s g a)) _ (omega arith) rest))
 
-pub descend-broken : (w p : List ℕ) → brokenInsertion (descend w p) ≡ brokenBy (capacityOf w) 0 (insertionLinks w p)
+pub descend-broken : (w p : List ℕ) → brokenInsertion (descend w p) ≡ brokenBy w (capacityOf w) 0 (insertionLinks w p)
 unfolding descend insertionLinks
 descend-broken w p = descendFrom-broken w (capacityOf w) p (suc levels) 0 0 rootPlace rootRegion 0 refl (omega arith)
 

@@ -1,5 +1,8 @@
 -- Laws of the tree, for the crates above.
 pub mod Spells
+pub mod Parents
+pub mod ParentParts
+pub mod RaiseLaws
 pub mod SearchSteps
 pub mod EnterSteps
 pub mod SearchStarts
@@ -30,4 +33,5 @@ pub mod RemoveLaws
 pub mod LiveLaws
 pub mod CarriesLaws
 pub mod ReachLaws
+pub mod PathLaws
 pub mod FreeHeadLaws

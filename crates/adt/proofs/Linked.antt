@@ -1,6 +1,7 @@
 -- A pool whose links hold together: what start leaves, and every accepted call keeps.
 --   Linked w c t ks      in the words w of a pool of c cells the root spells the tree t, the free head leads through the cells ks, and
---                        each of the cells 1 to c is in one of the two, once; of the free cells every field but left is 0
+--                        each of the cells 1 to c is in one of the two, once; those of t name their parents; of the free cells every
+--                        field but left is 0
 --   linked-distinct, linked-upto, linked-all     no cell is there twice; they are of 1 to c; each of 1 to c is there
 --   linked-count         tree and free cells are c together
 --   linked-capacity      C, by the length
@@ -26,6 +27,7 @@ use Rattle.pool.proofs.FreshLaws.{length-freshPool, capacity-freshPool}
 use Rattle.pool.proofs.FreeCellLaws.{Cleared, cleared-freshPool}
 use Rattle.adt.specs.Insert.{freeHead}
 use Rattle.adt.proofs.Spells.{Tree, blank, cellsOf, size, Spells, FreeChain}
+use Rattle.adt.proofs.Parents.{Parented, parented-blank}
 use Rattle.adt.proofs.TreeLaws.{cells-size}
 use Rattle.adt.proofs.FreshLaws.{spells-freshPool, chain-freshPool}
 
@@ -33,6 +35,7 @@ pub record Linked (w : List ℕ) (c : ℕ) (t : Tree) (ks : List ℕ) : Type 0 w
   pub long : length w ≡ poolLength c
   pub capacity : getD w capacityPlace 0 ≡ c
   pub spells : Spells w c (suc levels) rootRegion (getD w rootPlace 0) t
+  pub parents : Parented w 0 t
   pub free : FreeChain w c (freeHead w) ks
   pub cells : Perm (countFrom 1 c) (cellsOf t ++ ks)
   pub cleared : (k : ℕ) → List·Memᴰ k ks → Cleared w k
@@ -59,6 +62,7 @@ linked-freshPool c some = record {
   long = length-freshPool c;
   capacity = capacity-freshPool c;
   spells = spells-freshPool c;
+  parents = parented-blank;
   free = chain-freshPool c some;
   cells = perm-refl (countFrom 1 c);
   cleared = λ k m. let r = countFrom-mem 1 c k m in cleared-freshPool c k (omega arith) (omega arith);

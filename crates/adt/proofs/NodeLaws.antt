@@ -105,6 +105,7 @@ hook-away k hook away field.DoorFrom = hook-past k field.DoorFrom hook (omega ar
 hook-away k hook away field.DoorTo = hook-past k field.DoorTo hook (omega arith)
 hook-away k hook away field.QuarterFrom = hook-past k field.QuarterFrom hook (omega arith)
 hook-away k hook away field.QuarterTo = hook-past k field.QuarterTo hook (omega arith)
+hook-away k hook away field.Parent = hook-past k field.Parent hook (omega arith)
 
 pub field-set-hook : {c at : ℕ} (w : List ℕ) (k v : ℕ) (f : Field) → Hook c at → offset field.Right < offset f → fieldOf (set w at v) k f ≡ fieldOf w k f
 unfolding fieldOf

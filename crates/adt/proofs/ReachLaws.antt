@@ -2,7 +2,9 @@
 --   pathsIn p t         the paths to the cells of a tree that hangs at the path p, in the order of cellsOf
 --   pathsOf t ks        all paths: to the cells of the tree t, and to the free cells ks
 --   ends-pathsOf        their ends are these cells
---   spells-path         the link at a path spells a tree, in the path's region
+--   path-child          a step further leads through the link of the cell that the path ends at
+--   path-before         a path that ends at a cell, without its last step too
+--   spells-path         the link at a path spells a tree, in the path's region, whose first cell names the cell before it
 --   free-next           the next cell from the free head is the left link of the one before
 --   free-within         no more steps from the free head end at a cell than there are free cells
 --   path-mem            a path that ends at a cell is one of them
@@ -11,6 +13,7 @@
 --   linked-path, linked-reached    the paths from the root end at the cells of the tree
 --   linked-same         two that end at one cell are one
 --   linked-placed, linked-shallow  their points lie in the regions there; no path is longer than 112
+--   linked-parent       the parent that a cell names is the cell before it
 --   carries-one         a cell carries one grant
 -- Assumes nothing.
 use Prim.Native.Nat.{ℕ, zero, suc, _+_, _*_, _-_, _<_, _≤_}
@@ -37,9 +40,10 @@ use Rattle.geometry.specs.Levels.{levels}
 use Rattle.geometry.specs.Region.{Region, half}
 use Rattle.geometry.specs.Point.{inside}
 use Rattle.pool.specs.Cell.{grantWords}
-use Rattle.adt.specs.Node.{linkPlace, pointAt}
-use Rattle.adt.specs.Reach.{childOf, nodeAt, freeAt, Path, fromRoot, fromFree, endOf, Once, regionOf, Carries}
+use Rattle.adt.specs.Node.{linkPlace, parentAt, pointAt}
+use Rattle.adt.specs.Reach.{childOf, nodeAt, cellBefore, freeAt, Path, fromRoot, fromFree, endOf, Once, regionOf, Carries}
 use Rattle.adt.proofs.Spells.{Tree, blank, node, cellsOf, Spells, spells-blank, spells-node, FreeChain, chain-end, chain-more}
+use Rattle.adt.proofs.Parents.{Parented, parented-blank, parented-first, parented-child}
 use Rattle.adt.proofs.TreeLaws.{child, spells-child}
 use Rattle.adt.proofs.ChainLaws.{chain-le}
 use Rattle.adt.proofs.Linked.{Linked, linked-distinct, linked-all}
@@ -89,12 +93,11 @@ module _ (w : List ℕ) where
   child-some zero s h = h
   child-some (suc k) s h = omega arith
 
-  -- the next link on a path
-  path-child : (p : List Side) (s : Side) {k : ℕ} → nodeAt w p ≡ k → 0 < k → nodeAt w (s ∷ p) ≡ getD w (linkPlace k s) 0
+  pub path-child : (p : List Side) (s : Side) {k : ℕ} → nodeAt w p ≡ k → 0 < k → nodeAt w (s ∷ p) ≡ getD w (linkPlace k s) 0
   unfolding nodeAt
   path-child p s {k} e pos = ap (λ (j : ℕ). childOf w j s) e ∙ child-link k s pos
 
-  path-before : (p : List Side) (s : Side) → 0 < nodeAt w (s ∷ p) → 0 < nodeAt w p
+  pub path-before : (p : List Side) (s : Side) → 0 < nodeAt w (s ∷ p) → 0 < nodeAt w p
   unfolding nodeAt
   path-before p s h = child-some (nodeAt w p) s h
 
@@ -151,13 +154,13 @@ module _ (w : List ℕ) where
 
 -- one step further: a child of a spelled tree's first cell, and the next free cell
 module _ {w : List ℕ} {c : ℕ} where
-  spells-step : {m k : ℕ} {g : Region} {t : Tree} (s : Side) (i : ℕ) → m ≡ suc levels - i → Spells w c m g k t
-      → (u : Tree) × Spells w c (suc levels - suc i) (half s g (axisOf i)) (childOf w k s) u
-  spells-step s i e spells-blank = (blank, spells-blank)
-  spells-step s i e (spells-node {n = n} {g = g} {k = k} {l = l} {r = r} pos le j x y) =
+  spells-step : {m k b : ℕ} {g : Region} {t : Tree} (s : Side) (i : ℕ) → m ≡ suc levels - i → Spells w c m g k t
+      → Parented w b t → (u : Tree) × Spells w c (suc levels - suc i) (half s g (axisOf i)) (childOf w k s) u × Parented w k u
+  spells-step s i e spells-blank parents = (blank, spells-blank, parented-blank)
+  spells-step s i e (spells-node {n = n} {g = g} {k = k} {l = l} {r = r} pos le j x y) parents =
       let here : levels - n ≡ i = omega arith in
       let left : n ≡ suc levels - suc i = omega arith in
-      (child s l r, rw (child-link w k s pos, ← left, ← here) (spells-child s (spells-node {n = n} {g = g} pos le j x y)))
+      (child s l r, rw (child-link w k s pos, ← left, ← here) (spells-child s (spells-node {n = n} {g = g} pos le j x y)), parented-child s parents)
 
   spells-le : {m k : ℕ} {g : Region} {t : Tree} → Spells w c m g k t → k ≤ c
   spells-le spells-blank = omega arith
@@ -166,6 +169,10 @@ module _ {w : List ℕ} {c : ℕ} where
   spells-inside : {m k : ℕ} {g : Region} {t : Tree} → 0 < k → Spells w c m g k t → (inside g (pointAt w k) ≡ true) × (0 < m)
   spells-inside h spells-blank = absurd (omega arith)
   spells-inside h (spells-node pos le j x y) = (j, omega arith)
+
+  spells-parent : {m k b : ℕ} {g : Region} {t : Tree} → 0 < k → Spells w c m g k t → Parented w b t → parentAt w k ≡ b
+  spells-parent h spells-blank parents = absurd (omega arith)
+  spells-parent h (spells-node pos le j x y) parents = parented-first parents
 
   chain-step : {k : ℕ} {ks : List ℕ} → FreeChain w c k ks → (js : List ℕ) × FreeChain w c (childOf w k Left) js × (length js ≡ length ks - 1)
   chain-step chain-end = ([], chain-end, refl)
@@ -188,10 +195,10 @@ module _ {w : List ℕ} {c : ℕ} {t : Tree} {ks : List ℕ} (h : Linked w c t k
       (map-map (endOf w) fromRoot (pathsIn [] t) ∙ ends-root)
       (map-map (endOf w) fromFree (countFrom 0 (length ks)) ∙ ends-free w c 0 refl (h .free))
 
-  pub spells-path : (p : List Side) → (u : Tree) × Spells w c (suc levels - length p) (regionOf p) (nodeAt w p) u
-  unfolding nodeAt regionOf
-  spells-path [] = (t, h .spells)
-  spells-path (s ∷ p) = spells-step s (length p) refl (spells-path p .1)
+  pub spells-path : (p : List Side) → (u : Tree) × Spells w c (suc levels - length p) (regionOf p) (nodeAt w p) u × Parented w (cellBefore w p) u
+  unfolding nodeAt regionOf cellBefore
+  spells-path [] = (t, h .spells, h .parents)
+  spells-path (s ∷ p) = let r = spells-path p in spells-step s (length p) refl (r .1) (r .2)
 
   chain-path : (n : ℕ) → (js : List ℕ) × FreeChain w c (freeAt w n) js × (length js ≡ length ks - n)
   unfolding freeAt
@@ -239,3 +246,6 @@ module _ {w : List ℕ} {c : ℕ} {t : Tree} {ks : List ℕ} (h : Linked w c t k
 
   pub linked-shallow : (p : List Side) → 0 < nodeAt w p → length p ≤ levels
   linked-shallow p i = omega (arith, spells-inside i (spells-path p .1) .1)
+
+  pub linked-parent : (p : List Side) → 0 < nodeAt w p → parentAt w (nodeAt w p) ≡ cellBefore w p
+  linked-parent p i = let r = spells-path p in spells-parent i (r .1) (r .2)

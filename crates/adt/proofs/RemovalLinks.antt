@@ -40,19 +40,19 @@ brokenRemoval-cond false x y = refl
 
 -- the cell k is at level l, n levels above the last
 pub follow-broken : (w : List ℕ) (c n l k at met : ℕ) → l + n ≡ levels → met ≤ c
-    → brokenRemoval (follow w c n k at met) ≡ brokenBy c met (removalFrom w n l k)
+    → brokenRemoval (follow w c n k at met) ≡ brokenBy w c met (removalFrom w n l k)
 unfolding follow removalFrom
 follow-broken w c zero l k at met depth few =
     let here : Link = record { level = suc l; from = k; to = leftElseRight w k } in
-    rw (next-link, brokenRemoval-cond, brokenBy-blank, brokenBy-deep c met here [] (omega arith))
+    rw (next-link, brokenRemoval-cond, brokenBy-blank, brokenBy-deep w c met here [] (omega arith))
 follow-broken w c (suc n) l k at met depth few =
     let next = leftElseRight w k in
     let here : Link = record { level = suc l; from = k; to = next } in
     let rest = follow-broken w c n (suc l) next (nextLink w k) (suc met) (omega arith) in
     rw (next-link, brokenRemoval-cond, brokenRemoval-cond, brokenBy-blank)
-    (ap (cond (eqb next 0) false) (brokenBy-next c met here (removalFrom w n (suc l) next) _ (omega arith) rest))
+    (ap (cond (eqb next 0) false) (brokenBy-next w c met here (removalFrom w n (suc l) next) _ (omega arith) rest))
 
 pub terminalFrom-broken : (w : List ℕ) (k : ℕ) (here : Spot) → here .level ≤ levels → 1 ≤ capacityOf w
-    → brokenRemoval (terminalFrom w k here) ≡ brokenBy (capacityOf w) 1 (removalLinks w k (here .level))
+    → brokenRemoval (terminalFrom w k here) ≡ brokenBy w (capacityOf w) 1 (removalLinks w k (here .level))
 unfolding terminalFrom removalLinks
 terminalFrom-broken w k here above some = follow-broken w (capacityOf w) (levels - here .level) (here .level) k (here .link) 1 (omega arith) some

@@ -11,8 +11,7 @@ use lib.ListN.{length, getD, length-set}
 use lib.Seq.{getD-set-same, getD-set-other}
 use Rattle.lists.proofs.DistinctLaws.{Distinct, Upto, distinct-left, distinct-right, distinct-apart}
 use Rattle.lists.proofs.PermLaws.{put-seam, put-perm, Perm, perm-sym, perm-trans, perm-cons, perm-append, perm-mem, perm-distinct}
-use Rattle.geometry.specs.declared.Side.{Side}
-use Rattle.geometry.specs.declared.Side.the-variants.{Left, Right}
+use Rattle.geometry.specs.declared.Side.the-variants.{Left}
 use Rattle.geometry.specs.Levels.{levels}
 use Rattle.geometry.specs.Region.{rootRegion}
 use Rattle.geometry.proofs.RegionLaws.{root-shape}
@@ -30,8 +29,10 @@ use Rattle.adt.specs.Search.{Spot}
 use Rattle.adt.specs.Insert.{freeHead}
 use Rattle.adt.specs.Remove.{terminal, terminalFrom, freed, removed}
 use Rattle.adt.proofs.Spells.{Tree, blank, node, cellsOf, Spells, FreeChain, chain-more}
+use Rattle.adt.proofs.Parents.{Parented, parented-frame}
+use Rattle.adt.proofs.ParentParts.{parentIn, parented-part, exchanged-parented}
 use Rattle.adt.proofs.PartLaws.{Part, HangsAt}
-use Rattle.adt.proofs.NodeLaws.{Away, root-away, Hook, hook-root, hook-link, hook-not-free, hook-away, hook-withCell}
+use Rattle.adt.proofs.NodeLaws.{Away, root-away, Hook, hook-root, hook-link, hook-not-free, hook-past, hook-away, hook-withCell}
 use Rattle.adt.proofs.FrameLaws.{spells-frame, chain-frame}
 use Rattle.adt.proofs.PartRegion.{regionIn, region-shape, region-spells}
 use Rattle.adt.proofs.ExchangeLaws.{spells-cell, exchanged, outside, exchanged-cells, part-outside, part-away, part-hook, Kept, exchanged-spells}
@@ -130,7 +131,7 @@ module _ {w : List ℕ} {c : ℕ} {t : Tree} {ks : List ℕ} {n at k : ℕ} {l r
   bounds = upto-tree k (part-cell k own)
 
   -- unlinked, with the words x
-  module _ {x : List ℕ} (u : Unlinked w x c (suc n) at (regionIn p rootRegion) k (cellsOf (node k l r))) where
+  module _ {x : List ℕ} (u : Unlinked w x c (suc n) at (regionIn p rootRegion) (parentIn p 0) k (cellsOf (node k l r))) where
     long : length x ≡ poolLength c
     long = u .long ∙ h .long
 
@@ -186,6 +187,16 @@ module _ {w : List ℕ} {c : ℕ} {t : Tree} {ks : List ℕ} {n at k : ℕ} {l r
         })
         (u .spells))
 
+    parented-new : Parented (freed x k) 0 shrunk
+    unfolding shrunk
+    parented-new =
+        exchanged-parented p (u .tree) (h .parents)
+        (λ j m.
+        let pos = upto-outside j m .0 in
+        let out : ¬ List·Memᴰ j (cellsOf (node k l r)) = λ i. distinct-apart (cellsOf (node k l r)) distinct-parts j i m in
+        field-kept j field.Parent pos (outside-other j m) ∙ u .others j field.Parent pos out (hook-past j field.Parent hook (omega arith)))
+        (parented-frame (λ j m. field-kept j field.Parent (upto-tree j (part-cell j (new-cell j m)) .0) (new-other j m)) (u .parented))
+
     -- the cells that were free
     free-bounds : (j : ℕ) → List·Memᴰ j ks → (0 < j) × (j ≤ c)
     free-bounds j m = linked-upto h j (Memᴰ·append-right (cellsOf t) m)
@@ -229,6 +240,7 @@ module _ {w : List ℕ} {c : ℕ} {t : Tree} {ks : List ℕ} {n at k : ℕ} {l r
         long = freed-long x long (bounds .0) (bounds .1);
         capacity = freed-capacity x long (bounds .0) (bounds .1) ∙ u .header capacityPlace (omega arith) (omega arith) ∙ h .capacity;
         spells = exchanged-spells p (u .tree) refl (h .spells) kept-outside spells-new;
+        parents = parented-new;
         free = chain-new;
         cells = perm-trans (h .cells) (perm-trans (perm-append ks (perm-sym cells-new)) (put-perm (put-seam (cellsOf shrunk) ks)));
         cleared = cleared-new;
@@ -252,5 +264,5 @@ remove-keeps-linked {w} {c} {t} {k} {ks} {spot} {leaf} {leafAt} h hangs found =
     let q : Part (suc (hangs .below)) (spot .link) (node k (hangs .left) (hangs .right)) (suc (ends .below)) leafAt (node leaf blank blank) =
     rw (e, f) at (ends .part) in
     removed-all h p
-    (unlinked-part q (h .long) (hook h p) (first .link) (region-shape p root-shape) (rw (first .link) at sp)
+    (unlinked-part q (parented-part p (h .parents)) (h .long) (hook h p) (first .link) (region-shape p root-shape) (rw (first .link) at sp)
     (distinct-left (cellsOf (node k (hangs .left) (hangs .right))) (outside p) (distinct-parts h p)) (part-apart h p))

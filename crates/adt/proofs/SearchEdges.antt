@@ -3,7 +3,8 @@
 --   linkAt w e, linksAt w es   an edge's link, as specs/Links has it, and those of a list of them
 --   edgesFrom w q n l from at g   the edges that the search goes through, in its order, as `searchFrom` lists the links
 --   searchFrom-edges         `searchFrom` lists the links of these edges
---   pass w c q passes e s        the walk s goes through an edge: broken above C, below the last level, or once C cells were met
+--   pass w c q passes e s        the walk s goes through an edge: broken above C, below the last level, at a cell that names another parent, or
+--                            once C cells were met
 --   passAll w c q passes es s    through all of them
 --   enter-passes             the walk that stops is just that
 -- Assumes nothing.
@@ -20,7 +21,7 @@ use Rattle.geometry.specs.declared.Side.the-variants.{Left, Right}
 use Rattle.geometry.specs.Axis.{axisOf}
 use Rattle.geometry.specs.Levels.{levels}
 use Rattle.geometry.specs.Region.{Region, half, meets}
-use Rattle.adt.specs.Node.{linkPlace}
+use Rattle.adt.specs.Node.{linkPlace, isParent}
 use Rattle.adt.specs.Search.{Spot, Search, broken, going, unlessBroken, meet, visitBy, enter}
 use Rattle.adt.specs.Links.{Link, searchFrom}
 
@@ -65,7 +66,7 @@ module _ (w : List ℕ) (c : ℕ) (q : Region) (passes : Grant → Bool) where
   unfoldable pub pass : Edge → Search → Search
   pass e s =
       let k = getD w (e .spot .link) 0 in
-      unlessBroken s (cond (leb k c && leb (e .spot .level) levels) (meet w c q passes (e .spot) k s) broken)
+      unlessBroken s (cond (leb k c && leb (e .spot .level) levels && isParent w (e .from) k) (meet w c q passes (e .spot) k s) broken)
 
   unfoldable pub passAll : List Edge → Search → Search
   passAll [] s = s
@@ -93,7 +94,8 @@ module _ (w : List ℕ) (c : ℕ) (q : Region) (passes : Grant → Bool) where
 
   -- an edge that leads not below the last level
   pass-above : (e : Edge) (s : Search) → e .spot .level ≤ levels
-      → pass e s ≡ unlessBroken s (cond (leb (getD w (e .spot .link) 0) c) (meet w c q passes (e .spot) (getD w (e .spot .link) 0) s) broken)
+      → let k = getD w (e .spot .link) 0 in
+      pass e s ≡ unlessBroken s (cond (leb k c && isParent w (e .from) k) (meet w c q passes (e .spot) k s) broken)
   unfolding pass
   pass-above e s above = rw (le-leb (e .spot .level) levels above, and-true)
 
@@ -105,10 +107,10 @@ module _ (w : List ℕ) (c : ℕ) (q : Region) (passes : Grant → Bool) where
       e .spot .level ≤ levels
       → ((t : Search) → child k (linkPlace k Left) (half Left g a) t ≡ passAll left t)
       → ((t : Search) → child k (linkPlace k Right) (half Right g a) t ≡ passAll right t)
-      → cond (leb k c) (visitBy w c q passes child (e .spot) k g s) broken ≡ passAll (e ∷ left ++ right) s
+      → cond (leb k c && isParent w (e .from) k) (visitBy w c q passes child (e .spot) k g s) broken ≡ passAll (e ∷ left ++ right) s
   unfolding visitBy passAll
   visit-passes child e g met hits first left right above goLeft goRight =
-      go (leb (getD w (e .spot .link) 0) c)
+      go (leb (getD w (e .spot .link) 0) c && isParent w (e .from) (getD w (e .spot .link) 0))
       ∙ sym (passAll-append left right (pass e (going met hits first)) ∙ rw (pass-above e (going met hits first) above))
     where
       go : (b : Bool)

@@ -26,9 +26,10 @@ use Rattle.geometry.proofs.RegionLaws.{Shape, root-shape, half-shape, common-me
 use Rattle.pool.specs.Layout.{rootPlace}
 use Rattle.pool.specs.Capacity.{capacityOf}
 use Rattle.pool.specs.Cell.{grantAt}
-use Rattle.adt.specs.Node.{linkPlace, pointAt}
+use Rattle.adt.specs.Node.{linkPlace, parentAt, pointAt}
 use Rattle.adt.specs.Search.{Spot, nowhere, Search, going, firstSpot, meet, visitBy, enter, searchBy}
 use Rattle.adt.proofs.Spells.{Tree, node, cellsOf, size, Spells, spells-blank, spells-node}
+use Rattle.adt.proofs.Parents.{Parented, parented-first, parented-child}
 use Rattle.adt.proofs.TreeLaws.{cells-inside, size-few}
 use Rattle.adt.proofs.PartLaws.{HangsAt, hangs-cell, Placed, placedIn, placed-cells, placed-hangs}
 
@@ -92,11 +93,11 @@ module _ (w : List ℕ) (c : ℕ) (q : Region) (passes : Grant → Bool) where
     unfolding enter
     enter-apart e = rw (is, ne-eqb k 0 (omega arith), e)
 
-    enter-visit : meets g q ≡ true → k ≤ c
+    enter-visit : meets g q ≡ true → k ≤ c → parentAt w k ≡ from
         → enter w c q passes (suc n) from at g (going met hits first)
         ≡ visitBy w c q passes (enter w c q passes n) (record { level = levels - n; link = at }) k g (going met hits first)
     unfolding enter
-    enter-visit e le = rw (is, ne-eqb k 0 (omega arith), e, le-leb k c le)
+    enter-visit e le named = rw (is, ne-eqb k 0 (omega arith), e, le-leb k c le, eq-eqb (parentAt w k) from named)
 
   -- none of a tree's cells is a hit where its region is apart from the range
   apart-none : {n k : ℕ} {g : Region} {t : Tree} (at : ℕ) → Shape g → Spells w c n g k t → Narrows w q passes t → meets g q ≡ false
@@ -112,7 +113,7 @@ module _ (w : List ℕ) (c : ℕ) (q : Region) (passes : Grant → Bool) where
 
   -- a cell and its two children, where the walks through the children are known
   module _ (n from at k : ℕ) (g : Region) (l r : Tree) (met : ℕ) (found : List Placed) (is : getD w at 0 ≡ k) (v : Shape g) (pos : 0 < k) (le : k ≤ c)
-      (s : Spells w c (suc n) g k (node k l r)) (narrow : Narrows w q passes (node k l r)) (lt : met < c) where
+      (named : parentAt w k ≡ from) (s : Spells w c (suc n) g k (node k l r)) (narrow : Narrows w q passes (node k l r)) (lt : met < c) where
     abbrev here : Placed
     here = record { cell = k; spot = record { level = levels - n; link = at } }
 
@@ -142,7 +143,7 @@ module _ (w : List ℕ) (c : ℕ) (q : Region) (passes : Grant → Bool) where
           after = R .after;
           few = omega (arith, L .few, R .few);
           ends =
-              enter-visit n from at g met (map (λ p. p .cell) found) (spotOf found) k is pos e le
+              enter-visit n from at g met (map (λ p. p .cell) found) (spotOf found) k is pos e le named
               ∙ rw (meet-found (here .spot) k met found lt, L .ends) (R .ends ∙ ap (walked (R .after)) hits-node);
         }
         go false e = record {
@@ -153,27 +154,28 @@ module _ (w : List ℕ) (c : ℕ) (q : Region) (passes : Grant → Bool) where
               ∙ rw (apart-none at v s narrow e) (rw append-nil);
         }
 
-  enter-through : {n k : ℕ} {g : Region} {t : Tree} (from at met : ℕ) (found : List Placed) → getD w at 0 ≡ k → Shape g → Spells w c n g k t → Narrows w q passes t
-      → met + size t ≤ c
+  enter-through : {n k : ℕ} {g : Region} {t : Tree} (from at met : ℕ) (found : List Placed) → getD w at 0 ≡ k → Shape g → Spells w c n g k t → Parented w from t
+      → Narrows w q passes t → met + size t ≤ c
       → Through w passes n at t met found (enter w c q passes n from at g (walked met found))
   unfolding size placedIn filter cellsOf
-  enter-through {n} {g = g} from at met found is v spells-blank narrow fits = record {
+  enter-through {n} {g = g} from at met found is v spells-blank parents narrow fits = record {
     after = met;
     few = omega arith;
     ends = enter-blank n from at g met (map (λ p. p .cell) found) (spotOf found) is ∙ rw append-nil;
   }
-  enter-through from at met found is v (spells-node {n = n} {g = g} {k = k} {l = l} {r = r} pos le i x y) narrow fits =
+  enter-through from at met found is v (spells-node {n = n} {g = g} {k = k} {l = l} {r = r} pos le i x y) parents narrow fits =
       let a = axisOf (levels - n) in
       let lt = axis-lt (levels - n) in
       let s : Spells w c (suc n) g k (node k l r) = spells-node pos le i x y in
       let few : met < c = omega arith in
+      let named = parented-first parents in
       let left : Narrows w q passes l = λ j m. narrow j (List·Memᴰ·tail (Memᴰ·append-left (cellsOf r) m)) in
       let right : Narrows w q passes r = λ j m. narrow j (List·Memᴰ·tail (Memᴰ·append-right (cellsOf l) m)) in
-      let before = first n from at k g l r met found is v pos le s narrow few in
-      let L = enter-through k (linkPlace k Left) (suc met) before refl (half-shape Left g a v lt) x left (omega arith) in
-      let both = besides n from at k g l r met found is v pos le s narrow few in
-      let R = enter-through k (linkPlace k Right) (L .after) both refl (half-shape Right g a v lt) y right (omega (arith, L .few)) in
-      node-through n from at k g l r met found is v pos le s narrow few L R
+      let before = first n from at k g l r met found is v pos le named s narrow few in
+      let L = enter-through k (linkPlace k Left) (suc met) before refl (half-shape Left g a v lt) x (parented-child Left parents) left (omega arith) in
+      let both = besides n from at k g l r met found is v pos le named s narrow few in
+      let R = enter-through k (linkPlace k Right) (L .after) both refl (half-shape Right g a v lt) y (parented-child Right parents) right (omega (arith, L .few)) in
+      node-through n from at k g l r met found is v pos le named s narrow few L R
 
 -- the tree's cells whose grants pass, in the tree's order
 abbrev pub hitsIn : List ℕ → (Grant → Bool) → Tree → List ℕ
@@ -187,10 +189,10 @@ pub record Finds (w : List ℕ) (passes : Grant → Bool) (t : Tree) (s : Search
   pub hangs : (k : ℕ) (ks : List ℕ) → hitsIn w passes t ≡ k ∷ ks → HangsAt (suc levels) rootPlace t k first
 
 pub search-finds : {w : List ℕ} {c : ℕ} {t : Tree} (q : Region) (passes : Grant → Bool)
-    → Spells w c (suc levels) rootRegion (getD w rootPlace 0) t → Distinct (cellsOf t) → capacityOf w ≡ c → Narrows w q passes t
+    → Spells w c (suc levels) rootRegion (getD w rootPlace 0) t → Parented w 0 t → Distinct (cellsOf t) → capacityOf w ≡ c → Narrows w q passes t
     → Finds w passes t (searchBy w q passes)
 unfolding searchBy
-search-finds {w} {c} {t} q passes s d e narrow = record {
+search-finds {w} {c} {t} q passes s parents d e narrow = record {
   met = walk .after;
   first = spotOf hits;
   few = omega (arith, walk .few);
@@ -205,7 +207,7 @@ search-finds {w} {c} {t} q passes s d e narrow = record {
     hits = hitsAt w passes (suc levels) rootPlace t
 
     walk : Through w passes (suc levels) rootPlace t 0 [] (enter w c q passes (suc levels) 0 rootPlace rootRegion (going 0 [] nowhere))
-    walk = enter-through w c q passes 0 rootPlace 0 [] refl root-shape s narrow (omega (arith, size-few s d))
+    walk = enter-through w c q passes 0 rootPlace 0 [] refl root-shape s parents narrow (omega (arith, size-few s d))
 
     same : map (λ p. p .cell) hits ≡ hitsIn w passes t
     same =

@@ -1,8 +1,8 @@
 -- The start of a search, at the root, from memory in which nothing is met or found.
 --   fresh-counted, fresh-state                            what that memory stands for
---   search-blank, search-apart, search-above, search-visited    the tests at the root
+--   search-blank, search-apart, search-entered    the tests at the root
 -- Assumes nothing.
-use Prim.Native.Nat.{ℕ, suc, _<_, _≤_}
+use Prim.Native.Nat.{ℕ, suc}
 use mathlib.Core.Path.{_≡_, refl, sym, subst, _∙_}
 use mathlib.Core.Bool.{Bool, true, false}
 use mathlib.Core.List.{List, []}
@@ -13,9 +13,10 @@ use Rattle.geometry.specs.Levels.{levels}
 use Rattle.geometry.specs.Region.{Region, rootRegion, meets}
 use Rattle.pool.specs.Layout.{rootPlace}
 use Rattle.pool.proofs.CapacityLaws.{capacityOf-poolLength}
+use Rattle.geometry.specs.declared.Side.{Side}
 use Rattle.adt.specs.Search.{nowhere, going, enter, searchBy}
-use Rattle.adt.specs.SearchMemory.{searchIn, Counted, Fresh, Encodes, visited}
-use Rattle.adt.proofs.EnterSteps.{enter-blank, enter-apart, enter-above, enter-visits}
+use Rattle.adt.specs.SearchMemory.{searchIn, Counted, Fresh, Encodes, entered}
+use Rattle.adt.proofs.EnterSteps.{enter-blank, enter-apart}
 
 module _ {w : List ℕ} {c : ℕ} {h t : List ℕ} (fresh : Fresh w c h t) where
   pub fresh-counted : Counted c h t
@@ -46,19 +47,6 @@ module _ {w : List ℕ} {c : ℕ} {h t : List ℕ} (q : Region) (passes : Grant 
         state = fresh-state fresh ∙ enter-apart w c q passes (suc levels) 0 rootPlace k rootRegion e 0 [] nowhere nz deep m ∙ sym search-enters;
       }
 
-      module _ (m : meets rootRegion q ≡ true) where
-        pub search-above : c < k → Encodes c false h t (searchBy w q passes)
-        search-above past = record {
-          counted = fresh-counted fresh;
-          state = enter-above w c q passes (suc levels) 0 rootPlace k rootRegion e 0 [] nowhere nz deep m past ∙ sym search-enters;
-        }
-
-        pub search-visited : k ≤ c → {g : Region} → g ≡ rootRegion → {r : Bool} {h′ t′ : List ℕ}
-            → Encodes c r h′ t′ (visited w c q passes h t k levels rootPlace g) → Encodes c r h′ t′ (searchBy w q passes)
-        search-visited few i v = record {
-          counted = v .counted;
-          state =
-              v .state
-              ∙ rw (fresh-state fresh) (enter-visits w c q passes (suc levels) 0 rootPlace k rootRegion e 0 [] nowhere nz deep i m few)
-              ∙ sym search-enters;
-        }
+  pub search-entered : {g : Region} → g ≡ rootRegion → {r : Bool} {h′ t′ : List ℕ} (s : Side)
+      → Encodes c r h′ t′ (entered w c q passes h t (suc levels) 0 s g) → Encodes c r h′ t′ (searchBy w q passes)
+  search-entered i s d = record { counted = d .counted; state = d .state ∙ rw (i, fresh-state fresh) (sym search-enters) }

@@ -17,7 +17,7 @@ use Rattle.geometry.specs.Levels.{levels}
 use Rattle.geometry.specs.Region.{Region, sideOf, half}
 use Rattle.pool.specs.Capacity.{poolLength}
 use Rattle.pool.proofs.LayoutLaws.{place-within}
-use Rattle.adt.specs.Node.{linkField, linkPlace}
+use Rattle.adt.specs.Node.{linkField, linkPlace, isParent}
 use Rattle.adt.specs.Insert.{InsertionWalk, blankAt, descendFrom}
 use Rattle.adt.specs.Insert as insert
 use Rattle.adt.specs.Remove.{RemovalWalk, terminal, nextLink, follow}
@@ -46,8 +46,8 @@ module _ (w : List ℕ) (c : ℕ) (long : length w ≡ poolLength c) where
       let k = getD w at 0 in
       let a = axisOf (levels - n) in
       let s = sideOf g a (getD p a 0) in
-      descent-cases x y at from (eqb k 0) (leb k c && ltb met c) (descendFrom w c p n k (linkPlace k s) (half s g a) (suc met)) h
-      (λ nz go f. descent-within p n k (linkPlace k s) (half s g a) (suc met) x y (link-within k s nz (and-true (leb k c) (ltb met c) go)) f) e
+      descent-cases x y at from (eqb k 0) (leb k c && ltb met c && isParent w from k) (descendFrom w c p n k (linkPlace k s) (half s g a) (suc met)) h
+      (λ nz go f. descent-within p n k (linkPlace k s) (half s g a) (suc met) x y (link-within k s nz (and-true (leb k c) (ltb met c) (and-true (leb k c && ltb met c) (isParent w from k) go))) f) e
 
   -- the end of a removal walk lies in the pool
   pub record Ends (leaf cut : ℕ) : Type 0 where
@@ -79,9 +79,9 @@ module _ (w : List ℕ) (c : ℕ) (long : length w ≡ poolLength c) where
       (λ nz go f. absurd (let z : _≡_ {A = ℕ} 0 1 = cc in omega arith)) e
   follow-within (suc n) k at met leaf cut pos le h e =
       let next = getD w (nextLink w k) 0 in
-      follow-cases leaf cut k at (eqb next 0) (leb next c && ltb met c) (follow w c n next (nextLink w k) (suc met)) pos le h
+      follow-cases leaf cut k at (eqb next 0) (leb next c && ltb met c && isParent w k next) (follow w c n next (nextLink w k) (suc met)) pos le h
       (λ nz go f.
       let some : 0 < next = let z = eqb-false next 0 nz in omega arith in
-      let few = leb-true next c (and-true (leb next c) (ltb met c) go) in
+      let few = leb-true next c (and-true (leb next c) (ltb met c) (and-true (leb next c && ltb met c) (isParent w k next) go)) in
       follow-within n next (nextLink w k) (suc met) leaf cut some few (next-within k pos le) f)
       e

@@ -6,7 +6,7 @@
 --   descend w p         the whole way of the point p
 --   freeHead, nextFree  the free head, and the left link of its cell
 --   freeBroken w        one of the two is above C, read as grant reads them
---   inserted w at g     the words once the grant g hangs at the place `at`
+--   inserted w at parent g   the words once the grant g hangs at the place `at`, below the parent
 -- Assumes nothing: these are definitions.
 use Prim.Native.Nat.{ℕ, zero, suc, _-_}
 use mathlib.Core.Bool.{Bool, not, cond, _&&_, _||_}
@@ -21,7 +21,7 @@ use Rattle.pool.specs.declared.Field.the-variants as field
 use Rattle.pool.specs.Layout.{rootPlace, freePlace, fieldOf}
 use Rattle.pool.specs.Capacity.{capacityOf}
 use Rattle.pool.specs.Cell.{cellOf, withCell}
-use Rattle.adt.specs.Node.{linkPlace}
+use Rattle.adt.specs.Node.{linkPlace, isParent}
 
 pub data InsertionWalk : Type 0 where
   broken : InsertionWalk
@@ -36,7 +36,7 @@ module _ (w : List ℕ) (c : ℕ) (p : List ℕ) where
       let a = axisOf (levels - n) in
       let s = sideOf g a (getD p a 0) in
       let way = descendFrom n k (linkPlace k s) (half s g a) (suc met) in
-      cond (eqb k 0) (blankAt at from) (cond (leb k c && ltb met c) way broken)
+      cond (eqb k 0) (blankAt at from) (cond (leb k c && ltb met c && isParent w from k) way broken)
 
 unfoldable pub descend : List ℕ → List ℕ → InsertionWalk
 descend w p = descendFrom w (capacityOf w) p (suc levels) 0 rootPlace rootRegion 0
@@ -54,5 +54,5 @@ freeBroken w =
 
 -- the free head's cell takes the grant, the blank link takes the cell, the free head moves on.
 -- On a scrambled pool, where these places may be one, the order of the stores is ours.
-unfoldable pub inserted : List ℕ → ℕ → Grant → List ℕ
-inserted w at g = set (set (withCell w (freeHead w) (cellOf 0 0 g)) at (freeHead w)) freePlace (nextFree w)
+unfoldable pub inserted : List ℕ → ℕ → ℕ → Grant → List ℕ
+inserted w at parent g = set (set (withCell w (freeHead w) (cellOf 0 0 g parent)) at (freeHead w)) freePlace (nextFree w)

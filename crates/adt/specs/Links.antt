@@ -1,18 +1,21 @@
 -- Fault 9 as document 01 says it: the links that a walk goes through, as one list, each with the level that it leads to, counted
--- up from 0 at the root; taken from the words with no stopping and no counting. 9 comes exactly if one of them is above C or leads
--- below the last level, or the cells met are more than C. proofs/ joins this with the walks that stop.
+-- up from 0 at the root, and the cell that it is gone through from; taken from the words with no stopping and no counting. 9 comes exactly
+-- if one of them is above C, leads below the last level or to a cell that names another parent than that one (document 02, card 6), or the
+-- cells met are more than C. proofs/ joins this with the walks that stop.
 --   Link                       its value, the level of the cell that it leads to, and the cell that it is gone through from, 0 for the root's
---   brokenBy c met links       a walk through these links meets a cause of 9; `met` cells were met before the first of them
+--   meetsCause w c link        going through this link meets a cause of 9: above C, below the last level, another parent
+--   brokenBy w c met links     a walk through these links meets a cause of 9; `met` cells were met before the first of them
 --   searchLinks w q            the search's links, in its order
 --   insertionLinks w p         grant's way down of the point p
 --   leftElseRight w k          the link that the removal walk goes through from the cell k; 0 at a terminal cell
 --   removalLinks w k l         the removal walk from the cell k at level l, which is met before them
---   freeLinks w                the links of the free list that grant reads; their cells are not counted and have no level
+--   freeLinks w                the links of the free list that grant reads; their cells are not counted, have no level, and their parents are
+--                              not tested
 --   isHit w passes link        the link leads to a cell whose grant passes the test
 --   hitsAmong w passes links   the cells of the search's links that are hits, in order
 -- Every list of links is finite by the levels: n counts those left. Assumes nothing: these are definitions.
 use Prim.Native.Nat.{ℕ, zero, suc, _+_, _-_}
-use mathlib.Core.Bool.{Bool, cond, _||_}
+use mathlib.Core.Bool.{Bool, cond, not, _||_}
 use mathlib.Core.List.{List, [], _∷_, _++_, map}
 use lib.Dec.{ltb, eqb}
 use lib.ListN.{length, getD}
@@ -24,15 +27,18 @@ use Rattle.geometry.specs.Levels.{levels}
 use Rattle.geometry.specs.Region.{Region, rootRegion, sideOf, half, meets}
 use Rattle.pool.specs.Layout.{rootPlace, freePlace}
 use Rattle.pool.specs.Cell.{grantAt}
-use Rattle.adt.specs.Node.{linkPlace}
+use Rattle.adt.specs.Node.{linkPlace, isParent}
 
 pub record Link : Type 0 where
   pub level : ℕ
   pub from : ℕ
   pub to : ℕ
 
-unfoldable pub brokenBy : ℕ → ℕ → List Link → Bool
-brokenBy c met links = any (λ link. ltb c (link .to) || ltb levels (link .level)) links || ltb c (met + length links)
+abbrev pub meetsCause : List ℕ → ℕ → Link → Bool
+meetsCause w c link = ltb c (link .to) || ltb levels (link .level) || not (isParent w (link .from) (link .to))
+
+unfoldable pub brokenBy : List ℕ → ℕ → ℕ → List Link → Bool
+brokenBy w c met links = any (meetsCause w c) links || ltb c (met + length links)
 
 module _ (w : List ℕ) where
   -- this link, and those behind it; no region is left to test below the last level, so each link there that is not 0 is met

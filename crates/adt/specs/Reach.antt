@@ -5,10 +5,11 @@
 --   Once w k          exactly one path ends at the cell k
 --   regionOf p        the region of the cell at a path: the root's, halved link by link on the way. The cell is behind as many
 --                     cells as the path has steps.
+--   cellBefore w p    the cell that the path p passes last before its end, 0 at the root
 --   Carries w k g     the words of the cell k are those of the grant g; IsFree w k next: those of a free cell that leads to next
 --   Holds w c gs      the links reach each of the c cells once, and the cells reached from the root carry the grants gs,
---                     one each, each with its point in the region there, none behind more than 112 others; those reached from the
---                     free head are free cells, each leading to the next
+--                     one each, each with its point in the region there, none behind more than 112 others, each naming as its parent the cell
+--                     before it, the root none (document 02, card 6); those reached from the free head are free cells, each leading to the next
 -- Assumes nothing: these are definitions.
 use Prim.Native.Nat.{ℕ, zero, suc, _≤_, _<_}
 use mathlib.Core.Path.{_≡_}
@@ -27,7 +28,7 @@ use Rattle.pool.specs.declared.Field.the-variants as field
 use Rattle.pool.specs.Layout.{rootPlace, freePlace, place}
 use Rattle.pool.specs.Cell.{wordsAt, grantWords}
 use Rattle.pool.specs.Fresh.{freeCell}
-use Rattle.adt.specs.Node.{linkPlace}
+use Rattle.adt.specs.Node.{linkPlace, parentAt}
 use lib.Seq.{slice}
 
 -- the link of a cell to its child on a side; a blank link leads no further
@@ -37,6 +38,10 @@ childOf w k s = cond (eqb k 0) 0 (getD w (linkPlace k s) 0)
 unfoldable pub nodeAt : List ℕ → List Side → ℕ
 nodeAt w [] = getD w rootPlace 0
 nodeAt w (s ∷ p) = childOf w (nodeAt w p) s
+
+unfoldable pub cellBefore : List ℕ → List Side → ℕ
+cellBefore w [] = 0
+cellBefore w (s ∷ p) = nodeAt w p
 
 unfoldable pub freeAt : List ℕ → ℕ → ℕ
 freeAt w zero = getD w freePlace 0
@@ -79,4 +84,5 @@ pub record Holds (w : List ℕ) (c : ℕ) (gs : List Grant) : Type 0 where
   pub each : (g : Grant) → List·Memᴰ g gs → (p : List Side) × CarriedAt w g p × ((q : List Side) → CarriedAt w g q → q ≡ p)
   pub placed : (g : Grant) (p : List Side) → CarriedAt w g p → T (inside (regionOf p) (pointOf g))
   pub shallow : (p : List Side) → 0 < nodeAt w p → length p ≤ levels
+  pub parents : (p : List Side) → 0 < nodeAt w p → parentAt w (nodeAt w p) ≡ cellBefore w p
   pub free : (n : ℕ) → 0 < freeAt w n → IsFree w (freeAt w n) (freeAt w (suc n))

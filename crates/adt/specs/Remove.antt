@@ -4,20 +4,23 @@
 --   nextLink w k          the place of the link that the walk goes through: left where that is not blank, else right
 --   follow n k at m       from the cell k, which hangs at `at`, n levels above the last; m cells met so far, k among them
 --   terminalFrom w k s    the whole removal walk, whose first cell counted is k, at its own spot
+--   reparented w j p      the words once the cell j names the parent p
+--   raised w k leaf       the words once the terminal cell, which has the links of k, has its parent too, and is the parent of its children
 --   removed w k at leaf leafAt   the words once k is removed and free
 -- Assumes nothing: these are definitions.
 use Prim.Native.Nat.{ℕ, zero, suc, _-_}
-use mathlib.Core.Bool.{cond, _&&_}
+use mathlib.Core.Bool.{cond, _&&_, _||_}
 use mathlib.Core.List.{List}
 use lib.Dec.{leb, ltb, eqb}
 use lib.ListN.{getD, set}
 use Rattle.geometry.specs.declared.Side.the-variants.{Left, Right}
 use Rattle.geometry.specs.Levels.{levels}
-use Rattle.pool.specs.Layout.{freePlace}
+use Rattle.pool.specs.declared.Field.the-variants as field
+use Rattle.pool.specs.Layout.{freePlace, place}
 use Rattle.pool.specs.Capacity.{capacityOf}
 use Rattle.pool.specs.Cell.{withCell}
 use Rattle.pool.specs.Fresh.{freeCell}
-use Rattle.adt.specs.Node.{linkPlace}
+use Rattle.adt.specs.Node.{linkPlace, parentAt, isParent}
 use Rattle.adt.specs.Search.{Spot}
 
 pub data RemovalWalk : Type 0 where
@@ -33,7 +36,7 @@ module _ (w : List ℕ) (c : ℕ) where
   follow (suc n) k at met =
       let next = getD w (nextLink w k) 0 in
       let rest = follow n next (nextLink w k) (suc met) in
-      cond (eqb next 0) (terminal k at) (cond (leb next c && ltb met c) rest broken)
+      cond (eqb next 0) (terminal k at) (cond (leb next c && ltb met c && isParent w k next) rest broken)
 
 unfoldable pub terminalFrom : List ℕ → ℕ → Spot → RemovalWalk
 terminalFrom w k here = follow w (capacityOf w) (levels - here .level) k (here .link) 1
@@ -46,9 +49,19 @@ replaced w k at leaf leafAt =
     let right = set left (linkPlace leaf Right) (getD cut (linkPlace k Right) 0) in
     set right at leaf
 
+-- a blank link names no cell, and neither does one above C, which only a scrambled pool has, where no walk met it
+unfoldable pub reparented : List ℕ → ℕ → ℕ → List ℕ
+reparented w j p = cond (eqb j 0 || ltb (capacityOf w) j) w (set w (place j field.Parent) p)
+
+-- document 02, card 6: the unwanted cell's parent, and its remaining children
+unfoldable pub raised : List ℕ → ℕ → ℕ → List ℕ
+raised w k leaf =
+    let below = set w (place leaf field.Parent) (parentAt w k) in
+    reparented (reparented below (getD w (linkPlace leaf Left) 0) leaf) (getD w (linkPlace leaf Right) 0) leaf
+
 -- a terminal cell is simply cut off
 unfoldable pub unlinked : List ℕ → ℕ → ℕ → ℕ → ℕ → List ℕ
-unlinked w k at leaf leafAt = cond (eqb leaf k) (set w at 0) (replaced w k at leaf leafAt)
+unlinked w k at leaf leafAt = cond (eqb leaf k) (set w at 0) (raised (replaced w k at leaf leafAt) k leaf)
 
 -- the revoked cell becomes the free head
 unfoldable pub freed : List ℕ → ℕ → List ℕ

@@ -4,13 +4,13 @@
 --   meet            the cell is met and counted, and is a hit where its grant passes the test
 --   visitBy enter   the cell is met; then the left subtree is entered, then the right
 --   enter n from at g   the link at the place `at` is gone through from the cell `from`, 0 for the root's link, if it leads to a cell and that
---                   cell's region g meets the range; n is the number of levels below the parent, so the root is entered with one more than
---                   there are levels
+--                   cell's region g meets the range; the walk is broken where that cell names another parent (document 02, card 6);
+--                   n is the number of levels below the parent, so the root is entered with one more than there are levels
 --   searchBy w q passes   the whole walk, from the root: it goes by the range q, and its hits are the cells met whose grants pass the test
 --   search w q            the walk whose hits are the cells in its range
 -- Assumes nothing: these are definitions.
 use Prim.Native.Nat.{ℕ, zero, suc, _-_}
-use mathlib.Core.Bool.{Bool, cond}
+use mathlib.Core.Bool.{Bool, cond, _&&_}
 use mathlib.Core.List.{List, [], _∷_, _++_}
 use lib.Dec.{leb, ltb, eqb}
 use lib.ListN.{getD}
@@ -23,7 +23,7 @@ use Rattle.geometry.specs.Point.{inRange}
 use Rattle.pool.specs.Layout.{rootPlace}
 use Rattle.pool.specs.Capacity.{capacityOf}
 use Rattle.pool.specs.Cell.{grantAt}
-use Rattle.adt.specs.Node.{linkPlace}
+use Rattle.adt.specs.Node.{linkPlace, isParent}
 
 -- a cell on a walk: its level, and the place of the link it hangs on
 pub record Spot : Type 0 where
@@ -70,7 +70,7 @@ module _ (w : List ℕ) (c : ℕ) (q : Region) (passes : Grant → Bool) where
       unlessBroken s
       (cond (eqb k 0) s
       (cond (meets g q)
-      (cond (leb k c) (visitBy (enter n) (record { level = levels - n; link = at }) k g s) broken)
+      (cond (leb k c && isParent w from k) (visitBy (enter n) (record { level = levels - n; link = at }) k g s) broken)
       s))
 
 unfoldable pub searchBy : List ℕ → Region → (Grant → Bool) → Search

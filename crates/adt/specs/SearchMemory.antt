@@ -7,14 +7,17 @@
 --   Testing w c q hits counters k    what the test of the cell k goes by: a cell of the pool, and a search range
 --   Visiting .. k n g                what its visit goes by: n levels below it, and its region g, which meets the range
 --   Entering .. n p s g              what `enter` goes by at the link of the cell p on the side s, which isn't blank: n levels below p, and p's
---                                    region g, which meets the range
+--                                    region g, which meets the range; at the root's link one level more than there are, and the root's region
+--   linkEntered n p s                the place of that link: the root's where n is more than there are levels
+--   regionEntered n s g              the region of the cell that it leads to: the half of g on a side, at the root all of it
 --   tested, visited, entered         the state of the search after the test of a cell, after its visit, and once its subtree on a side was entered
 -- The contracts of the walk cite these; no claim does. Assumes nothing: these are definitions.
-use Prim.Native.Nat.{ℕ, _-_, _<_, _≤_}
+use Prim.Native.Nat.{ℕ, suc, _-_, _<_, _≤_}
 use mathlib.Core.Logic.{_≢_}
 use mathlib.Core.Path.{_≡_}
-use mathlib.Core.Bool.{Bool, true, false}
+use mathlib.Core.Bool.{Bool, true, false, cond}
 use mathlib.Core.List.{List}
+use lib.Dec.{leb}
 use lib.ListN.{length, take, getD, replicate}
 use Rattle.model.specs.Limits.{maxGrants}
 use Rattle.model.specs.declared.Grant.{Grant}
@@ -23,6 +26,7 @@ use Rattle.geometry.specs.Axis.{axisOf}
 use Rattle.geometry.specs.Levels.{levels}
 use Rattle.geometry.specs.Region.{Region, Shape, half, meets}
 use Rattle.geometry.specs.SearchRange.{OneSided}
+use Rattle.pool.specs.Layout.{rootPlace}
 use Rattle.pool.specs.Capacity.{poolLength}
 use Rattle.adt.specs.Node.{linkPlace}
 use Rattle.adt.specs.Search.{Search, broken, going, meet, visitBy, enter}
@@ -60,6 +64,12 @@ pub record Encodes (c : ℕ) (going : Bool) (hits counters : List ℕ) (s : Sear
   pub counted : Counted c hits counters
   pub state : searchIn going hits counters ≡ s
 
+abbrev pub linkEntered : ℕ → ℕ → Side → ℕ
+linkEntered n p s = cond (leb n levels) (linkPlace p s) rootPlace
+
+abbrev pub regionEntered : ℕ → Side → Region → Region
+regionEntered n s g = cond (leb n levels) (half s g (axisOf (levels - n))) g
+
 module _ (w : List ℕ) (c : ℕ) (q : Region) (hits counters : List ℕ) where
   pub record Testing (k : ℕ) : Type 0 where
     pub ready : Ready w c hits counters
@@ -75,10 +85,9 @@ module _ (w : List ℕ) (c : ℕ) (q : Region) (hits counters : List ℕ) where
 
   pub record Entering (n p : ℕ) (s : Side) (g : Region) : Type 0 where
     pub ready : Ready w c hits counters
-    pub some : 0 < p
-    pub in-cells : p ≤ c
-    pub leads : getD w (linkPlace p s) 0 ≢ 0
-    pub in-levels : n ≤ levels
+    pub cell : n ≤ levels → (0 < p) × (p ≤ c)
+    pub leads : getD w (linkEntered n p s) 0 ≢ 0
+    pub in-levels : n ≤ suc levels
     pub one-sided : OneSided q
     pub shape : Shape g
     pub meeting : meets g q ≡ true
@@ -91,4 +100,4 @@ module _ (w : List ℕ) (c : ℕ) (q : Region) (passes : Grant → Bool) (hits c
   visited k n link g = visitBy w c q passes (enter w c q passes n) (record { level = levels - n; link = link }) k g (searchIn true hits counters)
 
   abbrev pub entered : (n p : ℕ) → Side → Region → Search
-  entered n p s g = enter w c q passes n p (linkPlace p s) (half s g (axisOf (levels - n))) (searchIn true hits counters)
+  entered n p s g = enter w c q passes n p (linkEntered n p s) (regionEntered n s g) (searchIn true hits counters)

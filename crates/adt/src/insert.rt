@@ -11,15 +11,17 @@ use geometry::region::half_of;
 use geometry::region::root_region;
 use geometry::region::side_of;
 use model::Grant;
+use pool::Field;
 use pool::cell::store_grant;
 use pool::layout::FREE;
 use pool::layout::ROOT;
+use pool::layout::field;
 use pool::layout::wide;
 
 // Where a way down ends: at a cause of fault 9, or at the place of the blank link, which is the parent's, 0 for the root's.
 pub enum Slot {
     Broken,
-    At { link: usize, parent: usize },
+    At { link: usize, parent: u16 },
 }
 
 // The way down of a point.
@@ -28,13 +30,14 @@ pub fn find_slot(pool: &[u16], cells: usize, point: Point) -> Slot
     ensures { λ r. ⌜ insertionWalkOf r ≡ descend (now (pool .entry)) point ⌝ }
 {
     let mut region = root_region();
-    let mut parent: usize = 0;
+    let mut parent: u16 = 0;
     let mut link: usize = ROOT;
     let mut below: usize = LEVELS + 1;
     let mut met: usize = 0;
     while 0 < below {
         below -= 1;
-        let k = wide(pool[link]);
+        let child = pool[link];
+        let k = wide(child);
         if k == 0 {
             return Slot::At { link, parent };
         }
@@ -44,22 +47,25 @@ pub fn find_slot(pool: &[u16], cells: usize, point: Point) -> Slot
         if cells <= met {
             return Slot::Broken;
         }
+        if field(pool, k, Field::Parent) != parent {
+            return Slot::Broken;
+        }
         let axis = axis_of(LEVELS - below);
         let side = side_of(&region, axis, point[axis]);
         region[axis] = half_of(side, region[axis][0], region[axis][1]);
         link = link_place(k, side);
-        parent = k;
+        parent = child;
         met += 1;
     }
     Slot::Broken
 }
 
-// Hangs the free head's cell at the blank link with the grant in it; the free head moves on to the next free cell.
-pub fn insert(pool: &mut [u16], link: usize, free: usize, next: u16, g: Grant)
+// Hangs the free head's cell at the parent's blank link with the grant in it; the free head moves on to the next free cell.
+pub fn insert(pool: &mut [u16], link: usize, parent: u16, free: usize, next: u16, g: Grant)
     requires { ⌜ FreeSlot (now pool) link free next ⌝ }
-    ensures { λ r. ⌜ now (pool .exit) ≡ inserted (now (pool .entry)) link g ⌝ }
+    ensures { λ r. ⌜ now (pool .exit) ≡ inserted (now (pool .entry)) link parent g ⌝ }
 {
-    store_grant(pool, free, g);
+    store_grant(pool, free, g, parent);
     pool[link] = free as u16;
     pool[FREE] = next;
 }

@@ -1,8 +1,8 @@
 // Removal: the walk follows left, else right, from the unwanted cell until a terminal cell, which takes its place by links alone.
 ghost use mathlib.Core.Path.{_≡_};
 ghost use Prim.Native.Nat.{_<_};
-ghost use Rattle.pool.specs.Capacity.{poolLength, InPool};
-ghost use Rattle.adt.specs.Remove.{nextLink, follow, replaced, freed, removed};
+ghost use Rattle.pool.specs.Capacity.{poolLength, Sized, InPool};
+ghost use Rattle.adt.specs.Remove.{nextLink, follow, replaced, reparented, raised, freed, removed};
 ghost use Rattle.adt.specs.WalkResult.{removalWalkOf, RemovalStep, Removable};
 use pool::Field;
 use pool::cell::store_free;
@@ -56,6 +56,9 @@ pub fn find_terminal(
     if cells <= met {
         return Terminal::Broken;
     }
+    if wide(field(pool, next, Field::Parent)) != k {
+        return Terminal::Broken;
+    }
     find_terminal(pool, cells, below - 1, next, at, met + 1)
 }
 
@@ -72,6 +75,34 @@ fn replace(pool: &mut [u16], k: usize, link: usize, leaf: usize, cut: usize)
     pool[link] = leaf as u16;
 }
 
+// A child gets another parent; a blank link names none, and neither does one above C, which no walk met.
+fn reparent(pool: &mut [u16], cells: usize, child: u16, parent: u16)
+    requires { ⌜ Sized (now pool) cells ⌝ }
+    ensures { λ r. ⌜ now (pool .exit) ≡ reparented (now (pool .entry)) child parent ⌝ }
+{
+    let j = wide(child);
+    if j == 0 {
+        return;
+    }
+    if cells < j {
+        return;
+    }
+    set_field(pool, j, Field::Parent, parent);
+}
+
+// The terminal cell, which has the links of k, gets its parent too, and becomes the parent of its children.
+fn raise(pool: &mut [u16], cells: usize, k: usize, leaf: usize)
+    requires { ⌜ Sized (now pool) cells × InPool (now pool) k × InPool (now pool) leaf ⌝ }
+    ensures { λ r. ⌜ now (pool .exit) ≡ raised (now (pool .entry)) k leaf ⌝ }
+{
+    let left = field(pool, leaf, Field::Left);
+    let right = field(pool, leaf, Field::Right);
+    let parent = field(pool, k, Field::Parent);
+    set_field(pool, leaf, Field::Parent, parent);
+    reparent(pool, cells, left, leaf as u16);
+    reparent(pool, cells, right, leaf as u16);
+}
+
 // The cell becomes the free head.
 fn free(pool: &mut [u16], k: usize)
     requires { ⌜ InPool (now pool) k ⌝ }
@@ -83,8 +114,8 @@ fn free(pool: &mut [u16], k: usize)
 }
 
 // Removes the cell k, which hangs at the link's place, by the terminal cell that its removal walk found; k becomes the free head.
-pub fn remove(pool: &mut [u16], k: usize, link: usize, leaf: usize, cut: usize)
-    requires { ⌜ Removable (now pool) k link leaf cut ⌝ }
+pub fn remove(pool: &mut [u16], cells: usize, k: usize, link: usize, leaf: usize, cut: usize)
+    requires { ⌜ Sized (now pool) cells × Removable (now pool) k link leaf cut ⌝ }
     ensures { λ r. ⌜ now (pool .exit) ≡ removed (now (pool .entry)) k link leaf cut ⌝ }
 {
     if leaf == k {
@@ -93,5 +124,6 @@ pub fn remove(pool: &mut [u16], k: usize, link: usize, leaf: usize, cut: usize)
         return;
     }
     replace(pool, k, link, leaf, cut);
+    raise(pool, cells, k, leaf);
     free(pool, k);
 }

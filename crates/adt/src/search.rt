@@ -141,7 +141,8 @@ fn visit(
 }
 
 // Goes through the link of the parent on a side, which isn't blank, if the half of the parent's region on that side meets the range, and visits
-// the cell there. So many levels are below the parent.
+// the cell there, which must name that parent. So many levels are below the parent. The root, entered with one level more than there are, has no
+// parent, and all of the region that is handed in. `visit` is called from here alone, so that both are one frame of the stack a level (tests/stack).
 fn enter(
     pool: &[u16],
     cells: usize,
@@ -162,14 +163,20 @@ fn enter(
     if below == 0 {
         return false;
     }
-    let axis = axis_of(LEVELS - below);
-    if !half_meets(&region, range, axis, side) {
-        return true;
+    let mut link: usize = ROOT;
+    if below <= LEVELS {
+        let axis = axis_of(LEVELS - below);
+        if !half_meets(&region, range, axis, side) {
+            return true;
+        }
+        region[axis] = half_of(side, region[axis][0], region[axis][1]);
+        link = link_place(parent, side);
     }
-    region[axis] = half_of(side, region[axis][0], region[axis][1]);
-    let link = link_place(parent, side);
     let child = wide(pool[link]);
     if cells < child {
+        return false;
+    }
+    if wide(field(pool, child, Field::Parent)) != parent {
         return false;
     }
     visit(
@@ -200,24 +207,20 @@ pub fn search(
     ensures { λ r. ⌜ Encodes cells r (now (hits .exit)) (now (counters .exit))
         (searchBy (now (pool .entry)) (now (range .entry)) (testOf predicate (now (range .entry)))) ⌝ }
 {
-    let root = wide(pool[ROOT]);
-    if root == 0 {
+    if pool[ROOT] == 0 {
         return true;
     }
     let region = root_region();
     if !meets_range(&region, range) {
         return true;
     }
-    if cells < root {
-        return false;
-    }
     let words = words_of(predicate);
-    visit(
+    enter(
         pool,
         cells,
-        LEVELS,
-        root,
-        ROOT,
+        LEVELS + 1,
+        0,
+        Side::Left,
         region,
         range,
         &words,

@@ -3,8 +3,8 @@ ghost use lib.ListN.{length};
 ghost use Rattle.atomic_file.specs.Within.{ReadWithin};
 use crate::Read;
 
-// Reads until the bytes are full or the file ends, however few come at a time.
-fn read_on(fd: i32, bytes: &mut [u8]) -> Read
+// Reads on from an open file until the bytes are full or the file ends, however few come at a time.
+pub fn read_on(fd: i32, bytes: &mut [u8]) -> Read
     ensures { λ r. ⌜ ReadWithin (length (now (bytes .entry))) r ⌝ }
 {
     let mut done: usize = 0;

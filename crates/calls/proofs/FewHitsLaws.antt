@@ -36,7 +36,7 @@ hits-few w q passes = go (searchBy w q passes) refl
           ap length (s .found),
           length-map (filter (isHit w passes) links) (λ (link : Link). link .to),
           length-filter (isHit w passes) links,
-          unbroken-few (capacityOf w) 0 links (s .whole),
+          unbroken-few w (capacityOf w) 0 links (s .whole),
         )
 
 pub box-few : (w : List ℕ) (q : Box) (choice : Choice) → length (hitsOf (boxSearch w q choice)) ≤ capacityOf w

@@ -88,7 +88,7 @@ pub record Insertion {w : List ℕ} {b : Book} (h : Represents w b) (r : Request
   pub rest : List ℕ
   pub way : insertionWalk w r ≡ blankAt link parent
   pub linked : Linked w (b .capacity) (h .tree) (cell ∷ rest)
-  pub done : Inserted w (inserted w link (requested r)) (b .capacity) (h .tree) cell rest (requested r)
+  pub done : Inserted w (inserted w link parent (requested r)) (b .capacity) (h .tree) cell rest (requested r)
 
 module _ {w : List ℕ} {b : Book} (h : Represents w b) (r : Request) (fits : RequestFits r) where
   request-fits : GrantFits (requested r)
@@ -100,7 +100,7 @@ module _ {w : List ℕ} {b : Book} (h : Represents w b) (r : Request) (fits : Re
   request-leads : isLive b (r .number) ≡ false → Leads w (pointOf (requested r)) (h .tree)
   request-leads new =
       let n = not-live h (r .number) new in
-      descend-leads (pointOf (requested r)) (h .linked .spells) (cells-distinct h) (represents-capacity h) request-inside
+      descend-leads (pointOf (requested r)) (h .linked .spells) (h .linked .parents) (cells-distinct h) (represents-capacity h) request-inside
       (λ k m. numbers-differ (requested r) (grantAt w k) (λ e. n (Memᴰ·cast e (Memᴰ·map grantNumber (Memᴰ·map (grantAt w) m)))))
 
   pub grant-whole : grantBroken w r ≡ false

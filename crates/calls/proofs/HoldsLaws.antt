@@ -19,6 +19,7 @@ use Rattle.adt.specs.Reach.{nodeAt, regionOf, Carries, CarriedAt, Holds}
 use Rattle.adt.proofs.Spells.{cellsOf}
 use Rattle.adt.proofs.TreeLaws.{cells-upto}
 use Rattle.adt.proofs.ReachLaws.{carries-one, linked-within, linked-once, linked-path, linked-reached, linked-same, linked-placed, linked-shallow}
+use Rattle.adt.proofs.ReachLaws.{linked-parent}
 use Rattle.adt.proofs.FreeHeadLaws.{linked-free}
 use Rattle.calls.proofs.Represents.{grantNumber, Represents, represents-cell, represents-live, live-represents}
 
@@ -71,5 +72,6 @@ module _ {w : List ℕ} {b : Book} (h : Represents w b) where
     each = λ g m. let o = live-carried g m in (o .0, o .1, λ q c. carried-same (o .1) c);
     placed = carried-placed;
     shallow = linked-shallow (h .linked);
+    parents = linked-parent (h .linked);
     free = linked-free (h .linked);
   }

@@ -42,7 +42,7 @@ module _ (w : List ℕ) (q : Region) (passes : Grant → Bool) where
   unfolding searchMeets9
   isBroken-links = go (searchBy w q passes) refl
     where
-      go : (s : Search) → searchBy w q passes ≡ s → isBroken s ≡ brokenBy (capacityOf w) 0 (searchLinks w q)
+      go : (s : Search) → searchBy w q passes ≡ s → isBroken s ≡ brokenBy w (capacityOf w) 0 (searchLinks w q)
       go broken e = sym (search-broken-iff w q passes .0 e)
       go (going met hits first) e = sym (search-going w q passes met hits first e .whole)
 

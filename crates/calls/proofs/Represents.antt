@@ -120,7 +120,7 @@ module _ {w : List ℕ} {b : Book} (h : Represents w b) where
   module _ (q : Region) (passes : Grant → Bool) (narrows : (g : Grant) → GrantFits g → passes g ≡ true → inRange q g ≡ true) where
     pub represents-finds : Finds w passes (h .tree) (searchBy w q passes)
     represents-finds =
-        search-finds q passes (h .linked .spells) cells-distinct represents-capacity (λ k m. narrows (grantAt w k) (h .carried k m .fits))
+        search-finds q passes (h .linked .spells) (h .linked .parents) cells-distinct represents-capacity (λ k m. narrows (grantAt w k) (h .carried k m .fits))
 
   pub range-finds : (q : Region) → Finds w (inRange q) (h .tree) (search w q)
   range-finds q = represents-finds q (inRange q) (λ g fits e. e)

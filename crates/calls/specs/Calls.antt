@@ -42,7 +42,7 @@ startCall w =
 -- the words once the requested grant hangs at the end of its way; a way that is broken was refused before
 abbrev pub grantedWords : List ℕ → Request → InsertionWalk → List ℕ
 grantedWords w r insert.broken = w
-grantedWords w r (insert.blankAt at parent) = inserted w at (requested r)
+grantedWords w r (insert.blankAt at parent) = inserted w at parent (requested r)
 
 -- grant's order line, with what its walks found
 abbrev pub grantLine : List ℕ → Request → List Cause

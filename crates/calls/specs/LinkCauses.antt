@@ -28,7 +28,7 @@ use Rattle.adt.specs.Links.{Link, brokenBy, searchLinks, insertionLinks, remova
 use Rattle.calls.specs.Causes.{numberLive}
 
 unfoldable pub searchMeets9 : List ℕ → Region → Bool
-searchMeets9 w q = brokenBy (capacityOf w) 0 (searchLinks w q)
+searchMeets9 w q = brokenBy w (capacityOf w) 0 (searchLinks w q)
 
 unfoldable pub hitsBy : List ℕ → Region → (Grant → Bool) → List ℕ
 hitsBy w q passes = hitsAmong w passes (searchLinks w q)
@@ -49,12 +49,12 @@ unfoldable pub grantMeets9 : List ℕ → Request → Bool
 grantMeets9 w r =
     let q = rangeOfNumber (r .number) in
     searchMeets9 w q
-    || not (numberLive (searchHits w q)) && (brokenBy (capacityOf w) 0 (insertionLinks w (pointOf (requested r))) || freeMeets9 w)
+    || not (numberLive (searchHits w q)) && (brokenBy w (capacityOf w) 0 (insertionLinks w (pointOf (requested r))) || freeMeets9 w)
 
 -- the removal walk from the first of the links that are hits; none where nothing is hit
 abbrev pub removalMeets9 : List ℕ → List Link → Bool
 removalMeets9 w [] = false
-removalMeets9 w (first ∷ others) = brokenBy (capacityOf w) 1 (removalLinks w (first .to) (first .level))
+removalMeets9 w (first ∷ others) = brokenBy w (capacityOf w) 1 (removalLinks w (first .to) (first .level))
 
 unfoldable pub revokeMeets9 : List ℕ → ℕ → Bool
 revokeMeets9 w n =

@@ -38,24 +38,25 @@ others w =
 
 abbrev pub sizeCases : List Case
 sizeCases =
-    -- a word too few, a word too many, no cell, 2,049 cells, and a length that is right only when cut to 16 bits
-    record { given = makers (replicate 32 3) ++ others (replicate 32 3); wanted = replicate 9 1 }
-    ∷ record { given = makers (replicate 34 3) ++ others (replicate 34 3); wanted = replicate 9 1 }
+    -- a word too few, a word too many, ten words a cell, no cell, 2,049 cells, and a length that is right only when cut to 16 bits
+    record { given = makers (replicate 35 3) ++ others (replicate 35 3); wanted = replicate 9 1 }
+    ∷ record { given = makers (replicate 37 3) ++ others (replicate 37 3); wanted = replicate 9 1 }
+    ∷ record { given = makers (replicate 33 3) ++ others (replicate 33 3); wanted = replicate 9 1 }
     ∷ record { given = makers (replicate 3 0) ++ others (replicate 3 0); wanted = replicate 9 1 }
-    ∷ record { given = makers (replicate 20493 0); wanted = replicate 2 1 }
-    ∷ record { given = makers (replicate 65549 0); wanted = replicate 2 1 }
-    ∷ record { given = makers (replicate 20483 0); wanted = replicate 2 0 }
-    -- 33 words are three cells, and the first word says four
+    ∷ record { given = makers (replicate 22542 0); wanted = replicate 2 1 }
+    ∷ record { given = makers (replicate 65550 0); wanted = replicate 2 1 }
+    ∷ record { given = makers (replicate 22531 0); wanted = replicate 2 0 }
+    -- 36 words are three cells, and the first word says four
     ∷ record { given = makers (pool 3 0 1 []); wanted = replicate 2 0 }
-    ∷ record { given = makers (4 ∷ replicate 32 0); wanted = replicate 2 0 }
-    ∷ record { given = others (4 ∷ replicate 32 0); wanted = replicate 7 1 }
+    ∷ record { given = makers (4 ∷ replicate 35 0); wanted = replicate 2 0 }
+    ∷ record { given = others (4 ∷ replicate 35 0); wanted = replicate 7 1 }
     -- the same arguments on a pool: 3, 3, 2, none, no live grant, 2, 10
-    ∷ record { given = others (3 ∷ replicate 32 0); wanted = 3 ∷ 3 ∷ 2 ∷ 0 ∷ 0 ∷ 0 ∷ 0 ∷ 3 ∷ 2 ∷ 10 ∷ [] }
+    ∷ record { given = others (3 ∷ replicate 35 0); wanted = 3 ∷ 3 ∷ 2 ∷ 0 ∷ 0 ∷ 0 ∷ 0 ∷ 3 ∷ 2 ∷ 10 ∷ [] }
     ∷ []
 
 -- load into two cells, and match against two that are free
 abbrev judged : List ℕ → List ℕ
-judged f = responses (loadCall (replicate 23 0) f .answer) ++ responses (matchCall (startCall (replicate 23 0) .state) f .answer)
+judged f = responses (loadCall (replicate 25 0) f .answer) ++ responses (matchCall (startCall (replicate 25 0) .state) f .answer)
 
 -- the verdict of block read
 abbrev readAt : List ℕ → ℕ → List ℕ
@@ -111,7 +112,7 @@ fileCases =
 
 -- n cells of zeros to the left from the root, each hit by the door 0
 abbrev row : ℕ → List ℕ
-row n = pool n 1 0 (chain Left (n - 1) 1 ++ node 0 0 0)
+row n = pool n 1 0 (chain Left (n - 1) 1 ++ node 0 0 0 (n - 1))
 
 abbrev lent : List ℕ → ℕ → List ℕ
 lent w n = let s = writeCall w (record { from = 0; to = 0 }) (replicate n 5) in responses (s .answer) ++ take 1 (s .lent)

@@ -72,7 +72,7 @@ calls =
     ∷ []
 
 abbrev words : List ℕ
-words = after wordsStep (startCall (replicate 33 9) .state) calls
+words = after wordsStep (startCall (replicate 36 9) .state) calls
 
 abbrev book : Book
 book = after bookStep (emptyBook 3) calls
@@ -101,9 +101,9 @@ listCases =
     ∷ record { given = listed (box 15 15 31 34 51 51) Holding []; wanted = 2 ∷ 2 ∷ [] }
     ∷ []
 
--- a cell with these ends and no links, of the number 7 at door 3
+-- a cell with these ends, no links and no parent, of the number 7 at door 3
 abbrev cell : ℕ → ℕ → ℕ → ℕ → List ℕ
-cell staff-from staff-to quarter-from quarter-to = 0 ∷ 0 ∷ 7 ∷ 0 ∷ staff-from ∷ staff-to ∷ 3 ∷ 3 ∷ quarter-from ∷ quarter-to ∷ []
+cell staff-from staff-to quarter-from quarter-to = 0 ∷ 0 ∷ 7 ∷ 0 ∷ staff-from ∷ staff-to ∷ 3 ∷ 3 ∷ quarter-from ∷ quarter-to ∷ 0 ∷ []
 
 -- what list answers of staff 12 at door 3 in the quarters 3 to 8, under touching and under holding
 abbrev both : List ℕ → List ℕ
@@ -120,7 +120,7 @@ cellCases =
     -- reversed staff
     ∷ record { given = both (pool 1 1 0 (cell 20 10 3 8)); wanted = 0 ∷ 0 ∷ 0 ∷ 0 ∷ [] }
     -- a link above C: one walk, so 9 under both, although nothing holds the box
-    ∷ record { given = both (pool 1 1 0 (node 2 0 7)); wanted = 9 ∷ 9 ∷ [] }
+    ∷ record { given = both (pool 1 1 0 (node 2 0 7 0)); wanted = 9 ∷ 9 ∷ [] }
     ∷ []
 
 abbrev pub holdingCases : List Case

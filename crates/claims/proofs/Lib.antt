@@ -7,6 +7,7 @@ pub mod FaultCases
 pub mod SeniorCases
 pub mod QuarterCases
 pub mod HoldingCases
+pub mod ParentCases
 pub mod TriedCases
 pub mod MadeLaws
 pub mod KeepsLaws
@@ -25,6 +26,7 @@ pub mod Journals
 pub mod ReplayLaws
 pub mod TouchingLaws
 pub mod AttendantLaws
+pub mod GrantPathLaws
 pub mod PackedFaultLaws
 pub mod PackedFitLaws
 pub mod PackedReadLaws

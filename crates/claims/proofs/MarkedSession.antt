@@ -57,8 +57,8 @@ unfolding sessionText lineStep parseLine fieldsSlip letterSlip numbers fields de
 marked-session = refl
 
 -- the program's memory, of zeros, is of that size
-pub memory-met : Sized (replicate 20483 0) 2048
-memory-met = record { some = omega arith; few = omega arith; long = length-replicate {A = ℕ} 20483 0 }
+pub memory-met : Sized (replicate 22531 0) 2048
+memory-met = record { some = omega arith; few = omega arith; long = length-replicate {A = ℕ} 22531 0 }
 
 pub marked-printed : (memory : List ℕ) → Sized memory 2048 → sessionText wordsStep (startCall memory .state) lent (map ascii input) ≡ ascii output
 unfolding SlipsPrint

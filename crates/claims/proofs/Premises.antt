@@ -82,7 +82,7 @@ doors = record { from = 40; to = 50 }
 
 -- memory for two cells, whatever it holds
 abbrev memory : List ℕ
-memory = replicate 23 9
+memory = replicate 25 9
 
 abbrev calls : List Call
 calls = grant (requestOf seven) ∷ grant (requestOf broken) ∷ []

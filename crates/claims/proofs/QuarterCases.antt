@@ -68,7 +68,7 @@ abbrev asked : ℕ → ℕ → Request
 asked from to = record { number = 7; rank = 10; kind = 1; bounds = within from to }
 
 abbrev fresh : List ℕ
-fresh = startCall (replicate 13 9) .state
+fresh = startCall (replicate 14 9) .state
 
 -- the words, and the book, with the one grant
 abbrev words : ℕ → ℕ → List ℕ
@@ -140,12 +140,12 @@ abbrev brokenCases : List Case
 brokenCases =
     record { given = walked broken 0 ++ walked broken 65534; wanted = 1 ∷ 9 ∷ 1 ∷ 9 ∷ [] }
     ∷ record { given = walked broken 65535; wanted = 0 ∷ 0 ∷ 0 ∷ [] }
-    ∷ record { given = responses (decideCall (replicate 12 1) 8 3 65535 .answer); wanted = one 1 }
+    ∷ record { given = responses (decideCall (replicate 13 1) 8 3 65535 .answer); wanted = one 1 }
     ∷ []
 
 -- a pool with one cell of these quarters: what list answers to a box, and decide at a quarter
 abbrev cell : ℕ → ℕ → List ℕ
-cell from to = pool 1 1 0 (0 ∷ 0 ∷ 7 ∷ 21 ∷ 8 ∷ 8 ∷ 3 ∷ 3 ∷ from ∷ to ∷ [])
+cell from to = pool 1 1 0 (0 ∷ 0 ∷ 7 ∷ 21 ∷ 8 ∷ 8 ∷ 3 ∷ 3 ∷ from ∷ to ∷ 0 ∷ [])
 
 abbrev hit : List ℕ → ℕ → ℕ → List ℕ
 hit w from to = responses (listCall w (within from to) Touching (one 0) .answer)

@@ -25,7 +25,7 @@ abbrev asked : ℕ → ℕ → ℕ → ℕ → ℕ → Request
 asked number rank kind from to = record { number = number; rank = rank; kind = kind; bounds = box 0 0 from to 0 1 }
 
 abbrev fresh : List ℕ
-fresh = startCall (replicate 13 9) .state
+fresh = startCall (replicate 14 9) .state
 
 -- what the book and the words answer to it, both empty
 abbrev granted : Request → List ℕ
@@ -57,7 +57,7 @@ broken = pool 1 2 0 []
 
 abbrev orderCases : List Case
 orderCases =
-    record { given = responses (grantCall (replicate 12 1) (asked 5 0 1 0 1000) .answer); wanted = one 1 }
+    record { given = responses (grantCall (replicate 13 1) (asked 5 0 1 0 1000) .answer); wanted = one 1 }
     ∷ record { given = granted (asked 0 0 1 0 1000); wanted = 3 ∷ 3 ∷ [] }
     ∷ record { given = granted (asked 5 0 2 0 1000); wanted = 4 ∷ 4 ∷ [] }
     ∷ record { given = granted (record { number = 5; rank = 0; kind = 1; bounds = box 1 0 0 1000 0 1 }); wanted = 2 ∷ 2 ∷ [] }
@@ -97,7 +97,7 @@ recordCases =
 
 -- a cell with the grant 5: it opens all doors to one staff number at rank 3
 abbrev wide : List ℕ
-wide = pool 1 1 0 (0 ∷ 0 ∷ 5 ∷ 7 ∷ 8 ∷ 8 ∷ 0 ∷ 65535 ∷ 2 ∷ 3 ∷ [])
+wide = pool 1 1 0 (0 ∷ 0 ∷ 5 ∷ 7 ∷ 8 ∷ 8 ∷ 0 ∷ 65535 ∷ 2 ∷ 3 ∷ 0 ∷ [])
 
 abbrev cellCases : List Case
 cellCases =

@@ -1,11 +1,12 @@
 -- The definitions tried on numbers, where a slip would hide: one table under one theorem. Assumes nothing.
 --   cases         document 01's "Misprints and slips to catch"; a history of calls on words beside the same on the book, with an inner
 --                 cell revoked; pools that a revoke left; fault 9 on cyclic links; a file of two grants, byte for byte, and its verdict
---   linkCases     of LinkCases: fault 9 on scrambled pools, by the links and by the calls
+--   deepCases, linkCases   of LinkCases: fault 9 on scrambled pools, by the links and by the calls
 --   faultCases    of FaultCases: faults 1, 10, 11 and 14
 --   seniorCases   of SeniorCases: fault 16, and records and cells that break its rule
 --   quarterCases  of QuarterCases: the ends of quarters
 --   holdingCases  of HoldingCases: how a grant stands to a box, and list's choice
+--   parentCases   of ParentCases: the parents that calls leave, and 9 by a parent
 use Prim.Native.Nat.{ℕ, _+_, _-_, _*_, _%_, _/_}
 use mathlib.Core.Bool.{Bool, true, false, cond}
 use mathlib.Core.List.{List, [], _∷_, _++_, map, flatMap}
@@ -41,7 +42,7 @@ use Rattle.pool.specs.Cell.{grantAt, cellOf, withCell}
 use Rattle.pool.specs.Fresh.{freeCells, freshPool}
 use Rattle.adt.specs.Search.{Search, broken, going, meet, visitBy, enter, searchBy}
 use Rattle.adt.specs.Insert.{descendFrom, descend, freeBroken, inserted}
-use Rattle.adt.specs.Remove.{follow, terminalFrom, replaced, unlinked, freed, removed}
+use Rattle.adt.specs.Remove.{follow, terminalFrom, replaced, reparented, raised, unlinked, freed, removed}
 use Rattle.adt.specs.Links.{brokenBy, searchFrom, insertionFrom, removalFrom, searchLinks, insertionLinks, removalLinks, freeLinks, hitsAmong}
 use Rattle.checksum.specs.Checksum.{base256, checksum}
 use Rattle.grants_file.specs.Record.{encodeRecord, decodeRecord}
@@ -56,13 +57,15 @@ use Rattle.calls.specs.Order.{startOrder, grantOrder, revokeOrder, listOrder, l
 use Rattle.calls.specs.Calls.{startCall, grantCall, revokeCall, listCall, decideCall, countCall, wordsStep}
 use Rattle.calls.specs.FileCalls.{writeCall, grantAll, loadCall, firstDifference, matchCall}
 use Rattle.model.specs.Histories.{Response, responses, after}
-use Rattle.claims.proofs.Cases.{Case, passed, box, one, test}
+use Rattle.claims.proofs.Cases.{Case, passed, passed-append, box, one, test}
 use Rattle.claims.proofs.Cases as say
-use Rattle.claims.proofs.LinkCases.{linkCases}
+use Rattle.claims.proofs.Pools.{node, pool}
+use Rattle.claims.proofs.LinkCases.{deepCases, linkCases}
 use Rattle.claims.proofs.FaultCases.{faultCases}
 use Rattle.claims.proofs.SeniorCases.{seniorCases}
 use Rattle.claims.proofs.QuarterCases.{quarterCases}
 use Rattle.claims.proofs.HoldingCases.{holdingCases}
+use Rattle.claims.proofs.ParentCases.{parentCases}
 
 -- document 01's two grants of the slips
 abbrev seven : Request
@@ -115,19 +118,19 @@ numbers [] = []
 numbers (t ∷ ts) = say.responses (t .answer) ++ t .lent ++ numbers ts
 
 abbrev fresh : List ℕ
-fresh = startCall (replicate 33 9) .state
+fresh = startCall (replicate 36 9) .state
 
 -- four cells after the grants, then the revoke
 abbrev revokedLast : List Request → ℕ → List ℕ
-revokedLast rs n = after wordsStep (startCall (replicate 43 9) .state) (map grant rs ++ (revoke n ∷ []))
+revokedLast rs n = after wordsStep (startCall (replicate 47 9) .state) (map grant rs ++ (revoke n ∷ []))
 
--- two cells that link to each other
+-- two cells that link to each other; the second names the first as its parent, the first is the root's
 abbrev cycle : List ℕ
-cycle = 2 ∷ 1 ∷ 0 ∷ (2 ∷ 2 ∷ replicate 8 0) ++ (1 ∷ 1 ∷ replicate 8 0)
+cycle = pool 2 1 0 (node 2 2 0 0 ++ node 1 1 0 1)
 
 -- two cells of one rank and one number; the first bars, the second opens
 abbrev repeatedNumber : List ℕ
-repeatedNumber = 2 ∷ 1 ∷ 0 ∷ (2 ∷ 0 ∷ 7 ∷ 20 ∷ 0 ∷ 9 ∷ 0 ∷ 9 ∷ 0 ∷ 9 ∷ []) ++ (0 ∷ 0 ∷ 7 ∷ 21 ∷ 0 ∷ 9 ∷ 0 ∷ 9 ∷ 0 ∷ 9 ∷ [])
+repeatedNumber = pool 2 1 0 ((2 ∷ 0 ∷ 7 ∷ 20 ∷ 0 ∷ 9 ∷ 0 ∷ 9 ∷ 0 ∷ 9 ∷ 0 ∷ []) ++ (0 ∷ 0 ∷ 7 ∷ 21 ∷ 0 ∷ 9 ∷ 0 ∷ 9 ∷ 0 ∷ 9 ∷ 1 ∷ []))
 
 abbrev doors : Interval
 doors = record { from = 40; to = 50 }
@@ -158,7 +161,7 @@ cases =
     -- (2b): the right child's low is the middle
     ∷ record { given = high (half side.Left rootRegion 0) 0 ∷ low (half side.Right rootRegion 0) 0 ∷ []; wanted = 32767 ∷ 32768 ∷ [] }
     -- start, and a history on words beside the same on the book
-    ∷ record { given = fresh; wanted = 3 ∷ 0 ∷ 1 ∷ (2 ∷ replicate 9 0) ++ (3 ∷ replicate 9 0) ++ replicate 10 0 }
+    ∷ record { given = fresh; wanted = 3 ∷ 0 ∷ 1 ∷ (2 ∷ replicate 10 0) ++ (3 ∷ replicate 10 0) ++ replicate 11 0 }
     ∷ record { given = numbers (responses wordsStep fresh calls); wanted = numbers (responses bookStep (emptyBook 3) calls) }
     -- the book's answers to it, by hand: an inner cell (7) is revoked and nothing behind it is lost; at equal doors 3 outranks 7
     ∷ record {
@@ -185,56 +188,58 @@ cases =
     ∷ record { given = numbers (responses bookStep (emptyBook 3) equalRanks); wanted = 0 ∷ 0 ∷ 0 ∷ 1 ∷ 8 ∷ 10 ∷ 1 ∷ 0 ∷ 9 ∷ 0 ∷ 9 ∷ 0 ∷ 9 ∷ [] }
     -- of one rank and one number, which no calls leave, the first in the search's order decides: cell 1, which bars
     ∷ record { given = say.responses (decideCall repeatedNumber 5 5 5 .answer); wanted = 0 ∷ 2 ∷ 7 ∷ 10 ∷ 0 ∷ 0 ∷ 9 ∷ 0 ∷ 9 ∷ 0 ∷ 9 ∷ [] }
-    -- the words after it: 7's cell 1 had the children 3 and 9; 3, terminal on its left, took its place; 7 was granted again, behind 3, in cell 1
+    -- the words after it, each cell's parent last: 7's cell 1 had the children 3 and 9; 3, terminal on its left, took its place; 7 was granted
+    -- again, behind 3, in cell 1
     ∷ record {
       given = after wordsStep fresh calls;
       wanted =
           3 ∷ 2 ∷ 0
-          ∷ (0 ∷ 0 ∷ 7 ∷ 21 ∷ 100 ∷ 199 ∷ 1 ∷ 40 ∷ 32 ∷ 63 ∷ [])
-          ++ (1 ∷ 3 ∷ 3 ∷ 40 ∷ 150 ∷ 150 ∷ 12 ∷ 12 ∷ 0 ∷ 65535 ∷ [])
-          ++ (0 ∷ 0 ∷ 9 ∷ 21 ∷ 40000 ∷ 40001 ∷ 41 ∷ 50 ∷ 0 ∷ 9 ∷ []);
+          ∷ (0 ∷ 0 ∷ 7 ∷ 21 ∷ 100 ∷ 199 ∷ 1 ∷ 40 ∷ 32 ∷ 63 ∷ 2 ∷ [])
+          ++ (1 ∷ 3 ∷ 3 ∷ 40 ∷ 150 ∷ 150 ∷ 12 ∷ 12 ∷ 0 ∷ 65535 ∷ 0 ∷ [])
+          ++ (0 ∷ 0 ∷ 9 ∷ 21 ∷ 40000 ∷ 40001 ∷ 41 ∷ 50 ∷ 0 ∷ 9 ∷ 2 ∷ []);
     }
-    -- the words where a revoke came last: the terminal cell 2 was the son of 7's cell 1 and took its right link; cell 1 is the free head
+    -- the words where a revoke came last: the terminal cell 2 was the son of 7's cell 1 and took its right link, so that cell 3 names it as its
+    -- parent; cell 1 is the free head
     ∷ record {
       given = revokedLast (seven ∷ three ∷ nine ∷ []) 7;
       wanted =
           4 ∷ 2 ∷ 1
-          ∷ (4 ∷ replicate 9 0)
-          ++ (0 ∷ 3 ∷ 3 ∷ 40 ∷ 150 ∷ 150 ∷ 12 ∷ 12 ∷ 0 ∷ 65535 ∷ [])
-          ++ (0 ∷ 0 ∷ 9 ∷ 21 ∷ 40000 ∷ 40001 ∷ 41 ∷ 50 ∷ 0 ∷ 9 ∷ [])
-          ++ replicate 10 0;
+          ∷ (4 ∷ replicate 10 0)
+          ++ (0 ∷ 3 ∷ 3 ∷ 40 ∷ 150 ∷ 150 ∷ 12 ∷ 12 ∷ 0 ∷ 65535 ∷ 0 ∷ [])
+          ++ (0 ∷ 0 ∷ 9 ∷ 21 ∷ 40000 ∷ 40001 ∷ 41 ∷ 50 ∷ 0 ∷ 9 ∷ 2 ∷ [])
+          ++ replicate 11 0;
     }
-    -- the terminal cell 4 was 3's: it is cut off there and takes both links of cell 1; no other cell was free
+    -- the terminal cell 4 was 3's: it is cut off there, takes both links of cell 1 and is their cells' parent; no other cell was free
     ∷ record {
       given = revokedLast (seven ∷ three ∷ nine ∷ five ∷ []) 7;
       wanted =
           4 ∷ 4 ∷ 1
-          ∷ replicate 10 0
-          ++ (0 ∷ 0 ∷ 3 ∷ 40 ∷ 150 ∷ 150 ∷ 12 ∷ 12 ∷ 0 ∷ 65535 ∷ [])
-          ++ (0 ∷ 0 ∷ 9 ∷ 21 ∷ 40000 ∷ 40001 ∷ 41 ∷ 50 ∷ 0 ∷ 9 ∷ [])
-          ++ (2 ∷ 3 ∷ 5 ∷ 2 ∷ 0 ∷ 65535 ∷ 12 ∷ 12 ∷ 0 ∷ 1 ∷ []);
+          ∷ replicate 11 0
+          ++ (0 ∷ 0 ∷ 3 ∷ 40 ∷ 150 ∷ 150 ∷ 12 ∷ 12 ∷ 0 ∷ 65535 ∷ 4 ∷ [])
+          ++ (0 ∷ 0 ∷ 9 ∷ 21 ∷ 40000 ∷ 40001 ∷ 41 ∷ 50 ∷ 0 ∷ 9 ∷ 4 ∷ [])
+          ++ (2 ∷ 3 ∷ 5 ∷ 2 ∷ 0 ∷ 65535 ∷ 12 ∷ 12 ∷ 0 ∷ 1 ∷ 0 ∷ []);
     }
     -- left is blank, so right is followed, to cell 2
     ∷ record {
       given = revokedLast (seven ∷ nine ∷ []) 7;
       wanted =
           4 ∷ 2 ∷ 1
-          ∷ (3 ∷ replicate 9 0)
-          ++ (0 ∷ 0 ∷ 9 ∷ 21 ∷ 40000 ∷ 40001 ∷ 41 ∷ 50 ∷ 0 ∷ 9 ∷ [])
-          ++ (4 ∷ replicate 9 0)
-          ++ replicate 10 0;
+          ∷ (3 ∷ replicate 10 0)
+          ++ (0 ∷ 0 ∷ 9 ∷ 21 ∷ 40000 ∷ 40001 ∷ 41 ∷ 50 ∷ 0 ∷ 9 ∷ 0 ∷ [])
+          ++ (4 ∷ replicate 10 0)
+          ++ replicate 11 0;
     }
     -- a terminal cell, 9's cell 3, is cut off
     ∷ record {
       given = revokedLast (seven ∷ three ∷ nine ∷ []) 9;
       wanted =
           4 ∷ 1 ∷ 3
-          ∷ (2 ∷ 0 ∷ 7 ∷ 21 ∷ 100 ∷ 199 ∷ 1 ∷ 40 ∷ 32 ∷ 63 ∷ [])
-          ++ (0 ∷ 0 ∷ 3 ∷ 40 ∷ 150 ∷ 150 ∷ 12 ∷ 12 ∷ 0 ∷ 65535 ∷ [])
-          ++ (4 ∷ replicate 9 0)
-          ++ replicate 10 0;
+          ∷ (2 ∷ 0 ∷ 7 ∷ 21 ∷ 100 ∷ 199 ∷ 1 ∷ 40 ∷ 32 ∷ 63 ∷ 0 ∷ [])
+          ++ (0 ∷ 0 ∷ 3 ∷ 40 ∷ 150 ∷ 150 ∷ 12 ∷ 12 ∷ 0 ∷ 65535 ∷ 1 ∷ [])
+          ++ (4 ∷ replicate 10 0)
+          ++ replicate 11 0;
     }
-    -- fault 9 on links that form a cycle
+    -- fault 9 on links that form a cycle: the first cell, met again, names another parent
     ∷ record { given = say.responses (countCall cycle .answer); wanted = one 9 }
     ∷ record { given = say.responses (decideCall cycle 0 0 0 .answer); wanted = one 9 }
     ∷ record { given = say.responses (revokeCall cycle 5 .answer); wanted = one 9 }
@@ -267,18 +272,34 @@ cases =
       wanted = fileOf doors (touchingTwo (after bookStep (emptyBook 3) calls .live)) ++ (5 ∷ []);
     }
     ∷ record { given = say.responses (matchCall (after wordsStep fresh calls) (fileOf doors two) .answer); wanted = 0 ∷ 9 ∷ [] }
-    ∷ record { given = say.responses (matchCall (loadCall (replicate 23 1) (fileOf doors two) .state) (fileOf doors two) .answer); wanted = one 0 }
-    ∷ record { given = say.responses (loadCall (replicate 13 1) (fileOf doors two) .answer); wanted = one 6 }
+    ∷ record { given = say.responses (matchCall (loadCall (replicate 25 1) (fileOf doors two) .state) (fileOf doors two) .answer); wanted = one 0 }
+    ∷ record { given = say.responses (loadCall (replicate 14 1) (fileOf doors two) .answer); wanted = one 6 }
     ∷ []
 
-pub tried-cases : T (passed (cases ++ linkCases ++ faultCases ++ seniorCases ++ quarterCases ++ holdingCases))
+-- in two computations: in one they would take more steps than a single declaration may
+deep-cases : T (passed deepCases)
+unfolding filter every any each sameNumbers countFrom overlaps holdsBox relationOf takes firstFault refusing reversedBox outranks decidingOf decideAmong
+    rootRegion half meets pointOf inside rangeOfBox rangeOfNumber place fieldOf capacityOf wrongLength wrongPool grantAt meet visitBy enter
+    searchBy descendFrom descend freeBroken follow terminalFrom brokenBy searchFrom insertionFrom removalFrom searchLinks insertionLinks removalLinks
+    freeLinks hitsAmong searchMeets9 pointMeets9 hitsBy grantMeets9 revokeMeets9 grantBroken revokeBroken grantOrder revokeOrder listOrder lookOrder
+    grantCall revokeCall listCall decideCall countCall
+deep-cases = tt
+
+abbrev others : List Case
+others = cases ++ linkCases ++ faultCases ++ seniorCases ++ quarterCases ++ holdingCases ++ parentCases
+
+other-cases : T (passed others)
 unfolding filter every any each sameNumbers countFrom overwrite insertBy sortBy overlaps holdsBox relationOf takes sameGrant firstFault refusing
     reversedBox outranks decidingOf decideAmong bookGrant bookRevoke bookList bookDecide bookCount bookStep rootRegion half meets pointOf inside
     rangeOfBox rangeOfDoors rangeOfNumber place fieldOf capacityOf wrongLength wrongPool grantAt withCell freeCells freshPool meet visitBy enter
-    searchBy descendFrom descend freeBroken inserted follow terminalFrom replaced unlinked freed removed brokenBy searchFrom insertionFrom removalFrom
+    searchBy descendFrom descend freeBroken inserted follow terminalFrom replaced reparented raised unlinked freed removed
+    brokenBy searchFrom insertionFrom removalFrom
     searchLinks insertionLinks removalLinks freeLinks hitsAmong searchMeets9 pointMeets9 hitsBy grantMeets9 revokeMeets9 grantBroken revokeBroken
     startOrder grantOrder revokeOrder listOrder lookOrder startCall grantCall revokeCall listCall decideCall countCall wordsStep responses after
     base256 checksum encodeRecord decodeRecord sealed headerBlock recordBlock recordsOf wrongChecksum wrongPadding fileOf grantsIn wrongBlockCount
     recordsDefects lastBefore contentDefects fileDefects fileCauses notInFile wrongCount restDefects readCauses partOf writeOrder loadOrder matchOrder
     writeCall grantAll loadCall firstDifference matchCall blockCall mathlib.Core.List.flatMap
-tried-cases = tt
+other-cases = tt
+
+pub tried-cases : T (passed (deepCases ++ others))
+tried-cases = passed-append deepCases others deep-cases other-cases

@@ -10,5 +10,6 @@ pub mod SlipClaims
 pub mod JournalClaims
 pub mod PanelClaims
 pub mod AttendantClaims
+pub mod GrantPaths
 pub mod PackedFits
 pub mod PackedReads

@@ -7,6 +7,15 @@ use console::output::Stream;
 use console::output::put;
 use console::output::put_number;
 use model::Fault;
+use question::Number;
+use question::decimal::number_of;
+
+// The number that an argument gives.
+pub fn number_at(place: usize) -> Number {
+    let mut argument = io::buffer();
+    let length = os::arg(place, &mut argument);
+    number_of(&argument[..length])
+}
 
 // The quarter's number, with its day and time beside it.
 pub fn say_moment(out: Stream, base: Base, quarter: u16) -> Stream {

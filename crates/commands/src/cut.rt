@@ -1,4 +1,5 @@
 // Cuts a bank's file from head office's journal. Nothing is written before the journal is replayed whole.
+use crate::common::number_at;
 use crate::head_office::open;
 use crate::head_office::replay;
 use crate::head_office::warn_refusal;
@@ -34,7 +35,6 @@ use grants_file::layout::MAX_BYTES;
 use model::Written;
 use pool::layout::MAX_WORDS;
 use question::Number;
-use question::decimal::number_of;
 
 fn nothing_written(ending: Ending) -> Ending {
     warn(b"grants: nothing was written\n");
@@ -143,13 +143,6 @@ fn cut_doors(from: u16, to: u16) -> Ending {
     cut_named(&journal[..journal_length], &path[..length], from, to)
 }
 
-// The number that an argument gives.
-fn door_at(place: usize) -> Number {
-    let mut argument = io::buffer();
-    let length = os::arg(place, &mut argument);
-    number_of(&argument[..length])
-}
-
 // Whether the arguments are those that cut takes.
 fn are_given() -> bool {
     if !are(b"cut", 5, 6) {
@@ -169,8 +162,8 @@ pub fn cut() -> Ending {
     if !are_given() {
         return Ending::Failed;
     }
-    let first_door = door_at(3);
-    let last_door = door_at(4);
+    let first_door = number_at(3);
+    let last_door = number_at(4);
     let Number::Value(from) = first_door else {
         warn(b"grants: FROM is no door: give a number from 0 to 65535\n");
         return Ending::Failed;

@@ -1,9 +1,9 @@
 // Head office's grants: a journal of slips, replayed into a fresh index.
 use crate::messages::put_refusal;
 use console::arguments::name_at;
+use console::lines::Cursor;
 use console::lines::Line;
 use console::lines::Longer;
-use console::lines::fresh;
 use console::lines::next_line;
 use console::names::warn_name;
 use console::names::warn_unread;
@@ -104,15 +104,17 @@ fn refuse_unended(path: &[u8], number: u64) -> Ending {
     Ending::No
 }
 
-// Replays the lines of an open journal, up to the first that is refused. The number of a line is what a proved loop ends by.
+// Replays the lines of an open journal, first those that were read before, up to the first that is refused. The number of a line is what a
+// proved loop ends by.
 fn replay_lines(
     fd: i32,
     path: &[u8],
     pool: &mut [u16],
     input: &mut [u8],
+    read: Cursor,
     line: &mut [u8],
 ) -> Ending {
-    let mut cursor = fresh();
+    let mut cursor = read;
     let mut number: u64 = 1;
     while number < u64::MAX {
         let pulled = next_line(fd, input, cursor, line, Longer::GivenUp);
@@ -141,14 +143,20 @@ pub fn open(path: &[u8]) -> i32 {
     fd
 }
 
-// Starts the pool anew, replays an open journal and closes it: done where all of it was.
-pub fn replay(fd: i32, path: &[u8], pool: &mut [u16]) -> Ending {
+// Starts the pool anew, replays an open journal, of which so many bytes were read before, and closes it: done where all of it was.
+pub fn replay_on(fd: i32, path: &[u8], pool: &mut [u16], input: &mut [u8], read: usize) -> Ending {
     index::start::start(pool);
-    let mut input = [0u8; 4096];
     let mut line = [0u8; HELD];
-    let replayed = replay_lines(fd, path, pool, &mut input, &mut line);
+    let before = Cursor { at: 0, end: read };
+    let replayed = replay_lines(fd, path, pool, input, before, &mut line);
     libc::close(fd);
     replayed
+}
+
+// The same for a journal of which nothing was read.
+pub fn replay(fd: i32, path: &[u8], pool: &mut [u16]) -> Ending {
+    let mut input = [0u8; 4096];
+    replay_on(fd, path, pool, &mut input, 0)
 }
 
 // The same for the journal that the second argument names.

@@ -5,6 +5,7 @@ use crate::pages::say_cut;
 use crate::pages::say_match;
 use crate::pages::say_openings;
 use crate::pages::say_panel;
+use crate::pages::say_path;
 use crate::pages::say_show;
 use crate::pages::say_slips;
 use check::same;
@@ -66,6 +67,9 @@ fn page(command: &[u8]) -> Ending {
     }
     if same(command, b"show") {
         return paged(say_show());
+    }
+    if same(command, b"path") {
+        return paged(say_path());
     }
     if same(command, b"help") {
         return paged(say_all());

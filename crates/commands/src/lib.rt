@@ -10,6 +10,7 @@ mod may;
 mod messages;
 mod pages;
 pub mod panel_loop;
+pub mod path;
 mod replaced;
 pub mod report;
 mod shown;

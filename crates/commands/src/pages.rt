@@ -34,6 +34,10 @@ pub fn say_all() -> Stream {
     );
     let out = put(
         out,
+        b"grants path FILE NUMBER          support: a grant's cell in the tree, and those above it\n",
+    );
+    let out = put(
+        out,
         b"grants slips                     a slip a line from standard input, an answer a line\n",
     );
     put(
@@ -175,6 +179,27 @@ pub fn say_show() -> Stream {
         b"and to, quarters from and until, and whether the grant opens or bars.\n",
     );
     put(out, b"Example: grants show bank.lgf\n")
+}
+
+pub fn say_path() -> Stream {
+    let out = put(answers(), b"grants path FILE NUMBER\n");
+    let out = put(
+        out,
+        b"Shows where the grant NUMBER stands in the tree of an index: its own cell first, then\n",
+    );
+    let out = put(
+        out,
+        b"the cell above it, and so on up to the root. A row a cell: the cell's number, its level,\n",
+    );
+    let out = put(
+        out,
+        b"0 for the root, and the grant in it as show prints it. FILE is a journal, which is\n",
+    );
+    let out = put(
+        out,
+        b"replayed, or a bank's file, which is loaded as the panel loads it.\n",
+    );
+    put(out, b"Example: grants path night.txt 24\n")
 }
 
 pub fn say_slips() -> Stream {

@@ -25,7 +25,7 @@ fn refuse(path: &[u8], reason: &[u8]) -> bool {
 }
 
 // Whether bytes begin with a grants file's mark; its last byte, the form's number, may be another.
-fn is_marked(bytes: &[u8]) -> bool {
+pub fn is_marked(bytes: &[u8]) -> bool {
     if bytes.len() < 3 {
         return false;
     }

@@ -1,8 +1,10 @@
-// Every call ends soon on every pool (document 00, demand 1): pools whose links form cycles, through which a walk that went on would take
-// 2^112 ways. Each call is made on each pool, the slips' as slips, and answers at once; so do write, and match against the file of an
-// empty index.
+// Every call ends soon on every pool (document 00, demand 1): pools through which a walk that went on would take 2^112 ways. On three of them
+// the links form cycles, and a walk ends where a cell names another parent than the cell it came from. On the fourth both links of each cell
+// lead to the next one, every parent is right, and a walk ends where it has met more than C cells. Each call is made on each pool, the slips'
+// as slips, and answers at once; so do write, and match against the file of an empty index.
 use file_calls::matching::match_file;
 use file_calls::write::write;
+use geometry::axis::LEVELS;
 use grants_file::layout::BLOCK_BYTES;
 use grants_file::layout::MAX_BYTES;
 use index::start::start;
@@ -11,10 +13,20 @@ use model::MAX_GRANTS;
 use model::Matched;
 use model::Outcome;
 use model::Written;
+use pool::Field;
+use pool::layout::CAPACITY;
+use pool::layout::CELL_WORDS;
+use pool::layout::FREE;
 use pool::layout::MAX_WORDS;
+use pool::layout::ROOT;
+use pool::layout::place_of;
+use pool::layout::wide;
 use slip_session::answer;
 use slip_session::printing::LINE_BYTES;
 use slip_session::printing::print_outcome;
+
+// The words of a pool of one cell.
+const ONE_CELL: usize = MAX_WORDS - (MAX_GRANTS - 1) * CELL_WORDS;
 
 fn put(pool: &mut [u16], at: usize, word: u16) {
     if at < pool.len() {
@@ -22,13 +34,7 @@ fn put(pool: &mut [u16], at: usize, word: u16) {
     }
 }
 
-// Links a cell, whose two links lie at these places, to two cells.
-fn link(pool: &mut [u16], left: usize, right: usize, left_cell: u16, right_cell: u16) {
-    put(pool, left, left_cell);
-    put(pool, right, right_cell);
-}
-
-// Sets every word to 1, and so every link.
+// Sets every word to 1, and so every link and every parent.
 fn every_link_one(pool: &mut [u16]) {
     let mut i: usize = 0;
     while i < pool.len() {
@@ -38,10 +44,34 @@ fn every_link_one(pool: &mut [u16]) {
 }
 
 // Sets the header: how many cells there are, the root, the free head.
-fn header(pool: &mut [u16], cells: u16) {
-    put(pool, 0, cells);
-    put(pool, 1, 1);
-    put(pool, 2, 1);
+fn header(pool: &mut [u16]) {
+    put(pool, CAPACITY, MAX_GRANTS as u16);
+    put(pool, ROOT, 1);
+    put(pool, FREE, 1);
+}
+
+// Links a cell to two cells, and sets the parent that it names.
+fn link(pool: &mut [u16], cell: u16, left: u16, right: u16, parent: u16) {
+    let k = wide(cell);
+    if k == 0 {
+        return;
+    }
+    if MAX_GRANTS < k {
+        return;
+    }
+    put(pool, place_of(k, Field::Left), left);
+    put(pool, place_of(k, Field::Right), right);
+    put(pool, place_of(k, Field::Parent), parent);
+}
+
+// Links a cell a level to the next one on both sides; the last cell is terminal.
+fn link_both_to_next(pool: &mut [u16]) {
+    let mut k: u16 = 1;
+    while k <= LEVELS as u16 {
+        link(pool, k, k + 1, k + 1, k - 1);
+        k += 1;
+    }
+    link(pool, k, 0, 0, k - 1);
 }
 
 fn call(pool: &mut [u16], lent: &mut [u16], line: &[u8]) {
@@ -76,7 +106,7 @@ fn write_all_doors(pool: &[u16]) {
 }
 
 fn match_empty(pool: &[u16]) {
-    let mut empty = [0u16; 13];
+    let mut empty = [0u16; ONE_CELL];
     start(&mut empty);
     let mut file = [0u8; BLOCK_BYTES];
     write(&empty, 0, 65535, &mut file);
@@ -95,22 +125,45 @@ fn all_calls(pool: &mut [u16]) {
     match_empty(pool);
 }
 
+// Every link is to the first cell.
+fn try_first() {
+    let mut pool = [0u16; MAX_WORDS];
+    every_link_one(&mut pool);
+    header(&mut pool);
+    link(&mut pool, 1, 1, 1, 0);
+    all_calls(&mut pool);
+}
+
+// Each of three cells has the other two.
+fn try_three() {
+    let mut pool = [0u16; MAX_WORDS];
+    header(&mut pool);
+    link(&mut pool, 1, 2, 3, 0);
+    link(&mut pool, 2, 3, 1, 1);
+    link(&mut pool, 3, 1, 2, 1);
+    all_calls(&mut pool);
+}
+
+// Each of two cells has the other on both sides.
+fn try_two() {
+    let mut pool = [0u16; MAX_WORDS];
+    header(&mut pool);
+    link(&mut pool, 1, 2, 2, 0);
+    link(&mut pool, 2, 1, 1, 1);
+    all_calls(&mut pool);
+}
+
+// No cycle: the last cell is met in 2^112 ways, each of them right.
+fn try_chain() {
+    let mut pool = [0u16; MAX_WORDS];
+    header(&mut pool);
+    link_both_to_next(&mut pool);
+    all_calls(&mut pool);
+}
+
 fn main() {
-    let mut wide = [0u16; MAX_WORDS];
-    every_link_one(&mut wide);
-    header(&mut wide, MAX_GRANTS as u16);
-    all_calls(&mut wide);
-
-    let mut three = [0u16; 33];
-    header(&mut three, 3);
-    link(&mut three, 3, 4, 2, 3);
-    link(&mut three, 13, 14, 3, 1);
-    link(&mut three, 23, 24, 1, 2);
-    all_calls(&mut three);
-
-    let mut two = [0u16; MAX_WORDS];
-    header(&mut two, MAX_GRANTS as u16);
-    link(&mut two, 3, 4, 2, 2);
-    link(&mut two, 13, 14, 1, 1);
-    all_calls(&mut two);
+    try_first();
+    try_three();
+    try_two();
+    try_chain();
 }

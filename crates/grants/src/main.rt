@@ -42,6 +42,9 @@ fn run(command: &[u8]) -> Ending {
     if same(command, b"show") {
         return on_file(FileCommand::Show);
     }
+    if same(command, b"path") {
+        return commands::path::path();
+    }
     if same(command, b"help") {
         return commands::help::help();
     }

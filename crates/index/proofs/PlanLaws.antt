@@ -88,7 +88,7 @@ module _ (w : List ℕ) (r : Request) where
   unfolding InsertionPlanned grantCall refusing
   grant-refused fault e = record { answered = rw e; left = rw e }
 
-  pub grant-done : (link parent free next : ℕ) {v : List ℕ} → GrantPlanned w r (insertion.At link parent free next) → v ≡ inserted w link (requested r)
+  pub grant-done : (link parent free next : ℕ) {v : List ℕ} → GrantPlanned w r (insertion.At link parent free next) → v ≡ inserted w link parent (requested r)
       → Leaves (outcomeAnswer outcome.Done) v (grantCall w r)
   unfolding InsertionPlanned grantCall refusing
   grant-done link parent free next p e = record { answered = rw (p .passes); left = e ∙ rw (p .passes, p .way) }
@@ -136,12 +136,14 @@ module _ (w : List ℕ) (n : ℕ) where
         unfolding RemovalPlanned revokeOrder firstFault NumberFound revokeBroken
         revoke-removal-broken e = let broken = sym (e ∙ walk) in rw (p, ne-eqb n 0 nz, broken, f .found, eqb·suc-zero (length (f .others)))
 
-        pub revoke-planned : (leaf cut : ℕ) → terminal leaf cut ≡ follow w c (levels - level) cell link 1 → RemovalPlanned w n (removal.Of cell link leaf cut)
+        pub revoke-planned : (leaf cut : ℕ) → terminal leaf cut ≡ follow w c (levels - level) cell link 1
+            → RemovalPlanned w n (removal.Of c cell link leaf cut)
         unfolding RemovalPlanned revokeOrder firstFault NumberFound revokeBroken
         revoke-planned leaf cut e =
             let ends = sym (e ∙ walk) in
             let end = follow-within w c (sized .long) (levels - level) cell link 1 leaf cut (f .some) hit-few (f .place) (sym e) in
             record {
+              sized = sized;
               passes = rw (p, ne-eqb n 0 nz, ends, f .found, eqb·suc-zero (length (f .others)));
               first = rw (f .found);
               spot = rw (f .found);
@@ -155,18 +157,18 @@ module _ (w : List ℕ) (n : ℕ) where
                   };
             }
 
-  pub plan-removes : (cell link leaf cut : ℕ) → RemovalPlanned w n (removal.Of cell link leaf cut) → Removable w cell link leaf cut
+  pub plan-removes : (c cell link leaf cut : ℕ) → RemovalPlanned w n (removal.Of c cell link leaf cut) → Sized w c × Removable w cell link leaf cut
   unfolding RemovalPlanned
-  plan-removes cell link leaf cut p = p .inside
+  plan-removes c cell link leaf cut p = (p .sized, p .inside)
 
   pub revoke-refused : (fault : Fault) → RemovalPlanned w n (removal.Refused fault) → Leaves (outcomeAnswer (outcome.Refused fault)) w (revokeCall w n)
   unfolding RemovalPlanned revokeCall refusing
   revoke-refused fault e = record { answered = rw e; left = rw e }
 
-  pub revoke-done : (cell link leaf cut : ℕ) {v : List ℕ} → RemovalPlanned w n (removal.Of cell link leaf cut) → v ≡ removed w cell link leaf cut
+  pub revoke-done : (c cell link leaf cut : ℕ) {v : List ℕ} → RemovalPlanned w n (removal.Of c cell link leaf cut) → v ≡ removed w cell link leaf cut
       → Leaves (outcomeAnswer outcome.Done) v (revokeCall w n)
   unfolding RemovalPlanned revokeCall refusing
-  revoke-done cell link leaf cut p e = record { answered = rw (p .passes); left = e ∙ rw (p .passes, p .ends, p .first, p .spot) }
+  revoke-done c cell link leaf cut p e = record { answered = rw (p .passes); left = e ∙ rw (p .passes, p .ends, p .first, p .spot) }
 
 module _ (w : List ℕ) where
   pub start-refused : wrongLength w ≡ true → Leaves (outcomeAnswer (outcome.Refused BadPool)) w (startCall w)

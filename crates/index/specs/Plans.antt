@@ -9,6 +9,7 @@ use mathlib.Core.List.{List}
 use mathlib.Core.Option.{none, some}
 use Rattle.model.specs.Refusal.{firstFault}
 use Rattle.model.specs.Call.{Request}
+use Rattle.pool.specs.Capacity.{Sized}
 use Rattle.adt.specs.Remove.{terminal}
 use Rattle.adt.specs.WalkResult.{Removable}
 use Rattle.steps.specs.declared.insertion.Insertion.{Insertion}
@@ -22,7 +23,8 @@ abbrev pub GrantPlanned : List ℕ → Request → Insertion → Type 0
 GrantPlanned w r = InsertionPlanned (grantLine w r) w r
 
 -- no cause is left, the number's first hit is k at the link's place, and its removal walk ends at the terminal cell
-pub record Found (w : List ℕ) (n k link leaf cut : ℕ) : Type 0 where
+pub record Found (w : List ℕ) (n c k link leaf cut : ℕ) : Type 0 where
+  pub sized : Sized w c
   pub passes : firstFault (revokeLine w n) ≡ none
   pub first : firstHit (numberSearch w n) ≡ k
   pub spot : firstSpotOf (numberSearch w n) .link ≡ link
@@ -31,4 +33,4 @@ pub record Found (w : List ℕ) (n k link leaf cut : ℕ) : Type 0 where
 
 unfoldable pub RemovalPlanned : List ℕ → ℕ → Removal → Type 0
 RemovalPlanned w n (removal.Refused f) = firstFault (revokeLine w n) ≡ some f
-RemovalPlanned w n (removal.Of k link leaf cut) = Found w n k link leaf cut
+RemovalPlanned w n (removal.Of c k link leaf cut) = Found w n c k link leaf cut

@@ -51,13 +51,14 @@ pub fn grant(pool: &mut [u16], number: u16, rank: u8, kind: u8, bounds: Box) -> 
         Insertion::Refused(f) => Outcome::Refused(f),
         Insertion::At {
             link,
-            parent: _,
+            parent,
             free,
             next,
         } => {
             insert(
                 pool,
                 link,
+                parent,
                 free,
                 next,
                 requested(number, rank, kind, bounds),

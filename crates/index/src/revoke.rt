@@ -13,10 +13,12 @@ use model::Fault;
 use model::Outcome;
 use pool::layout::capacity;
 
-// What revoke is to do, once all walks and tests are done: refuse, or remove a cell that hangs at a link's place by a terminal cell.
+// What revoke is to do, once all walks and tests are done: refuse, or remove a cell that hangs at a link's place by a terminal cell, in a pool of
+// so many cells.
 pub enum Removal {
     Refused(Fault),
     Of {
+        cells: usize,
         cell: usize,
         link: usize,
         leaf: usize,
@@ -47,6 +49,7 @@ fn plan_removal(pool: &[u16], number: u16) -> Removal
                     cell: leaf,
                     link: cut,
                 } => Removal::Of {
+                    cells,
                     cell,
                     link,
                     leaf,
@@ -64,12 +67,13 @@ pub fn revoke(pool: &mut [u16], number: u16) -> Outcome
     match removal {
         Removal::Refused(f) => Outcome::Refused(f),
         Removal::Of {
+            cells,
             cell,
             link,
             leaf,
             cut,
         } => {
-            remove(pool, cell, link, leaf, cut);
+            remove(pool, cells, cell, link, leaf, cut);
             Outcome::Done
         }
     }

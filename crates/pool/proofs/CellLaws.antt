@@ -3,13 +3,15 @@
 --   field-withCell-same         a field of the cell that was stored is the word at its offset
 --   field-withCell-other        fields of other cells stay
 --   header-withCell             the header's words stay
---   grant-past                  the fields of a grant stand behind the links
+--   ofGrant f                   whether a field is one of those that carry a grant
+--   grant-past, grant-before    these stand behind the links and before the parent
 --   SameGrantWords w v k        the fields of cell k that carry its grant are the same in both
 --   grantAt-same                then the grant is the same
 --   grantAt-withCell-same       the grant that was stored, if it fits
 -- Assumes nothing.
 use Prim.Native.Nat.{ℕ, _+_, _*_, _/_, _%_, _<_, _≤_}
 use mathlib.Core.Path.{_≡_, refl, ap, _∙_}
+use mathlib.Core.Bool.{Bool, true, false}
 use mathlib.Core.List.{List}
 use native.Mathlib.Omega.{arith}
 use lib.Dec.{T, lit<}
@@ -22,10 +24,10 @@ use Rattle.model.specs.declared.Grant.{Grant}
 use Rattle.model.specs.Kind.{kindNumber, kindOf}
 use Rattle.model.specs.Values.{GrantFits}
 use Rattle.pool.specs.declared.Field.{Field}
-use Rattle.pool.specs.declared.Field.the-variants.{Left, Right, Number, RankKind, StaffFrom, StaffTo, DoorFrom, DoorTo, QuarterFrom, QuarterTo}
+use Rattle.pool.specs.declared.Field.the-variants.{Left, Right, Number, RankKind, StaffFrom, StaffTo, DoorFrom, DoorTo, QuarterFrom, QuarterTo, Parent}
 use Rattle.pool.specs.Layout.{headerWords, cellWords, offset, place, fieldOf}
 use Rattle.pool.specs.Capacity.{poolLength}
-use Rattle.pool.specs.Cell.{ofGrant, grantAt, cellOf, withCell}
+use Rattle.pool.specs.Cell.{grantAt, cellOf, withCell}
 use Rattle.pool.proofs.LayoutLaws.{offset-lt, place-past-header}
 
 pub length-withCell : (w : List ℕ) (k : ℕ) (ws : List ℕ) → length (withCell w k ws) ≡ length w
@@ -47,6 +49,20 @@ module _ (w : List ℕ) (k : ℕ) (ws : List ℕ) (ten : length ws ≡ cellWords
   unfolding withCell
   header-withCell i h = getD-sets-other w (place k Left) ws i 0 (λ m lt. omega (arith, place-past-header k Left))
 
+-- the field carries a part of the grant
+abbrev pub ofGrant : Field → Bool
+ofGrant Left = false
+ofGrant Right = false
+ofGrant Number = true
+ofGrant RankKind = true
+ofGrant StaffFrom = true
+ofGrant StaffTo = true
+ofGrant DoorFrom = true
+ofGrant DoorTo = true
+ofGrant QuarterFrom = true
+ofGrant QuarterTo = true
+ofGrant Parent = false
+
 pub grant-past : (f : Field) → T (ofGrant f) → offset Right < offset f
 grant-past Left h = absurd h
 grant-past Right h = absurd h
@@ -58,6 +74,20 @@ grant-past DoorFrom h = lit< tt
 grant-past DoorTo h = lit< tt
 grant-past QuarterFrom h = lit< tt
 grant-past QuarterTo h = lit< tt
+grant-past Parent h = absurd h
+
+pub grant-before : (f : Field) → T (ofGrant f) → offset f < offset Parent
+grant-before Left h = absurd h
+grant-before Right h = absurd h
+grant-before Number h = lit< tt
+grant-before RankKind h = lit< tt
+grant-before StaffFrom h = lit< tt
+grant-before StaffTo h = lit< tt
+grant-before DoorFrom h = lit< tt
+grant-before DoorTo h = lit< tt
+grant-before QuarterFrom h = lit< tt
+grant-before QuarterTo h = lit< tt
+grant-before Parent h = absurd h
 
 abbrev pub SameGrantWords : List ℕ → List ℕ → ℕ → Type 0
 SameGrantWords w v k = (f : Field) → T (ofGrant f) → fieldOf v k f ≡ fieldOf w k f
@@ -76,12 +106,12 @@ pub kind-word : (r : ℕ) (k : Kind) → kindOf ((r * 2 + kindNumber k) % 2) ≡
 kind-word r Bars = ap kindOf (let e : (r * 2 + 0) % 2 ≡ 0 = omega arith in e)
 kind-word r Opens = ap kindOf (let e : (r * 2 + 1) % 2 ≡ 1 = omega arith in e)
 
-pub grantAt-withCell-same : (w : List ℕ) (c k l r : ℕ) (g : Grant) → 0 < k → k ≤ c → length w ≡ poolLength c → GrantFits g
-    → grantAt (withCell w k (cellOf l r g)) k ≡ g
+pub grantAt-withCell-same : (w : List ℕ) (c k l r : ℕ) (g : Grant) (p : ℕ) → 0 < k → k ≤ c → length w ≡ poolLength c → GrantFits g
+    → grantAt (withCell w k (cellOf l r g p)) k ≡ g
 unfolding grantAt
-grantAt-withCell-same w c k l r g pos le long fits =
-    let v = withCell w k (cellOf l r g) in
-    let at : (f : Field) → fieldOf v k f ≡ getD (cellOf l r g) (offset f) 0 = λ f. field-withCell-same w k (cellOf l r g) refl c f pos le long in
+grantAt-withCell-same w c k l r g p pos le long fits =
+    let v = withCell w k (cellOf l r g p) in
+    let at : (f : Field) → fieldOf v k f ≡ getD (cellOf l r g p) (offset f) 0 = λ f. field-withCell-same w k (cellOf l r g p) refl c f pos le long in
     let rank = rank-word (g .rank) (g .kind) (fits .rank) in
     let kind = kind-word (g .rank) (g .kind) in
     rw (at Number, at RankKind, at StaffFrom, at StaffTo, at DoorFrom, at DoorTo, at QuarterFrom, at QuarterTo, rank, kind) refl

@@ -5,13 +5,13 @@
 -- Assumes nothing.
 use Prim.Native.Nat.{ℕ, suc, _<_, _≤_}
 use mathlib.Core.Path.{_≡_, refl, ap, _∙_}
-use mathlib.Core.List.{List, [], _∷_}
+use mathlib.Core.List.{List, [], _∷_, _++_}
 use native.Mathlib.Omega.{arith}
 use lib.ListN.{length, getD}
 use lib.Seq.{slice, slice-empty, slice-cons}
 use Rattle.model.specs.declared.Grant.{Grant}
 use Rattle.pool.specs.declared.Field.{Field}
-use Rattle.pool.specs.declared.Field.the-variants.{Left, Right, Number, RankKind, StaffFrom, StaffTo, DoorFrom, DoorTo, QuarterFrom, QuarterTo}
+use Rattle.pool.specs.declared.Field.the-variants.{Left, Right, Number, RankKind, StaffFrom, StaffTo, DoorFrom, DoorTo, QuarterFrom, QuarterTo, Parent}
 use Rattle.pool.specs.Layout.{offset, place, fieldOf}
 use Rattle.pool.specs.Capacity.{poolLength}
 use Rattle.pool.specs.Cell.{wordsAt, grantWords, cellOf, withCell}
@@ -44,11 +44,11 @@ module _ (w : List ℕ) (c k : ℕ) (pos : 0 < k) (le : k ≤ c) (long : length 
   unfolding place
   next f g e = omega arith
 
-  last : suc (place k QuarterTo) ≡ place (suc k) Left
+  last : suc (place k Parent) ≡ place (suc k) Left
   unfolding place
   last = omega arith
 
-  pub slice-cell : slice (place k Left) (place (suc k) Left) w ≡ fieldOf w k Left ∷ fieldOf w k Right ∷ wordsAt w k
+  pub slice-cell : slice (place k Left) (place (suc k) Left) w ≡ fieldOf w k Left ∷ fieldOf w k Right ∷ wordsAt w k ++ (fieldOf w k Parent ∷ [])
   slice-cell =
       rw (
         slice-field Left (place k Right) (next Left Right refl),
@@ -60,7 +60,8 @@ module _ (w : List ℕ) (c k : ℕ) (pos : 0 < k) (le : k ≤ c) (long : length 
         slice-field DoorFrom (place k DoorTo) (next DoorFrom DoorTo refl),
         slice-field DoorTo (place k QuarterFrom) (next DoorTo QuarterFrom refl),
         slice-field QuarterFrom (place k QuarterTo) (next QuarterFrom QuarterTo refl),
-        slice-field QuarterTo (place (suc k) Left) last,
+        slice-field QuarterTo (place k Parent) (next QuarterTo Parent refl),
+        slice-field Parent (place (suc k) Left) last,
         slice-empty (place (suc k) Left) w,
       ) refl
 
@@ -68,9 +69,9 @@ pub wordsAt-same : (w v : List ℕ) (k : ℕ) → SameGrantWords w v k → words
 wordsAt-same w v k same =
     cc (same Number tt, same RankKind tt, same StaffFrom tt, same StaffTo tt, same DoorFrom tt, same DoorTo tt, same QuarterFrom tt, same QuarterTo tt)
 
-pub wordsAt-withCell : (w : List ℕ) (c k l r : ℕ) (g : Grant) → 0 < k → k ≤ c → length w ≡ poolLength c
-    → wordsAt (withCell w k (cellOf l r g)) k ≡ grantWords g
-wordsAt-withCell w c k l r g pos le long =
-    let v = withCell w k (cellOf l r g) in
-    let at : (f : Field) → fieldOf v k f ≡ getD (cellOf l r g) (offset f) 0 = λ f. field-withCell-same w k (cellOf l r g) refl c f pos le long in
+pub wordsAt-withCell : (w : List ℕ) (c k l r : ℕ) (g : Grant) (p : ℕ) → 0 < k → k ≤ c → length w ≡ poolLength c
+    → wordsAt (withCell w k (cellOf l r g p)) k ≡ grantWords g
+wordsAt-withCell w c k l r g p pos le long =
+    let v = withCell w k (cellOf l r g p) in
+    let at : (f : Field) → fieldOf v k f ≡ getD (cellOf l r g p) (offset f) 0 = λ f. field-withCell-same w k (cellOf l r g p) refl c f pos le long in
     rw (at Number, at RankKind, at StaffFrom, at StaffTo, at DoorFrom, at DoorTo, at QuarterFrom, at QuarterTo) refl

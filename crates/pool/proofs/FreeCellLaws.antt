@@ -14,7 +14,7 @@ use lib.Dec.{eqb}
 use lib.ListN.{length, getD, getD-replicate}
 use lib.Seq.{slice}
 use Rattle.pool.specs.declared.Field.{Field}
-use Rattle.pool.specs.declared.Field.the-variants.{Left, Right, Number, RankKind, StaffFrom, StaffTo, DoorFrom, DoorTo, QuarterFrom, QuarterTo}
+use Rattle.pool.specs.declared.Field.the-variants.{Left, Right, Number, RankKind, StaffFrom, StaffTo, DoorFrom, DoorTo, QuarterFrom, QuarterTo, Parent}
 use Rattle.pool.specs.Layout.{cellWords, offset, place, fieldOf}
 use Rattle.pool.specs.Capacity.{poolLength}
 use Rattle.pool.specs.Cell.{withCell}
@@ -55,4 +55,5 @@ cleared-words w c k pos le long cleared =
       cleared DoorTo (omega arith),
       cleared QuarterFrom (omega arith),
       cleared QuarterTo (omega arith),
+      cleared Parent (omega arith),
     ) refl

@@ -14,7 +14,7 @@ use lib.Dec.{lit<}
 use lib.ListN.{set}
 use lib.Seq.{getD-set-other}
 use Rattle.pool.specs.declared.Field.{Field}
-use Rattle.pool.specs.declared.Field.the-variants.{Left, Right, Number, RankKind, StaffFrom, StaffTo, DoorFrom, DoorTo, QuarterFrom, QuarterTo}
+use Rattle.pool.specs.declared.Field.the-variants.{Left, Right, Number, RankKind, StaffFrom, StaffTo, DoorFrom, DoorTo, QuarterFrom, QuarterTo, Parent}
 use Rattle.pool.specs.Layout.{headerWords, cellWords, offset, place, fieldOf}
 use Rattle.pool.specs.Capacity.{poolLength}
 
@@ -29,6 +29,7 @@ offset-lt DoorFrom = lit< tt
 offset-lt DoorTo = lit< tt
 offset-lt QuarterFrom = lit< tt
 offset-lt QuarterTo = lit< tt
+offset-lt Parent = lit< tt
 
 module _ (j k : ℕ) (f g : Field) (e : place j f ≡ place k g) where
   past-header : (j - 1) * cellWords + offset f ≡ (k - 1) * cellWords + offset g

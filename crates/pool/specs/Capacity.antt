@@ -1,4 +1,5 @@
--- How long a pool is, and the number of its cells: document 01's C (document 01, "The tree": 3 + 10 × C words, C from 1 to 2048).
+-- How long a pool is, and the number of its cells: document 01's C (document 01, "The tree", and document 02, card 6: 3 + 11 × C words,
+-- C from 1 to 2048).
 --   poolLength c      the words of a pool of c cells
 --   Sized w c         w is memory for a pool of c cells, c from 1 to 2,048, whatever it holds
 --   InPool w k        the cell k, from 1 to 2,048, lies in the words w

@@ -1,21 +1,20 @@
--- What a cell carries (document 01, "The tree": left, right, number, rank × 2 + kind, and the six box values).
+-- What a cell carries (document 01, "The tree": left, right, number, rank × 2 + kind, and the six box values; document 02, card 6: the parent).
 --   grantAt w k         the grant in cell k
---   grantFields, ofGrant f   the fields that carry it, by name, and whether a field is one of them
+--   grantFields         the fields that carry it, by name
 --   wordsAt w k         what stands in these fields of cell k
 --   grantWords g        the words of a grant in these fields
---   cellOf l r g        the words of a cell with the links l and r
+--   cellOf l r g p      the words of a cell with the links l and r and the parent p
 --   withCell w k ws     the pool after ws were stored in cell k
 -- Document 01 says nothing of a word rank × 2 + kind above 511, which only a scrambled pool has; here its rank is taken modulo 256.
 -- Assumes nothing: these are definitions.
 use Prim.Native.Nat.{ℕ, _+_, _*_, _/_, _%_}
-use mathlib.Core.Bool.{Bool, true, false}
-use mathlib.Core.List.{List, [], _∷_, map}
+use mathlib.Core.List.{List, [], _∷_, _++_, map}
 use lib.Seq.{sets}
 use Rattle.model.specs.declared.Grant.{Grant}
 use Rattle.model.specs.Kind.{kindNumber, kindOf}
 use Rattle.model.specs.Box.{boxValues}
 use Rattle.pool.specs.declared.Field.{Field}
-use Rattle.pool.specs.declared.Field.the-variants.{Left, Right, Number, RankKind, StaffFrom, StaffTo, DoorFrom, DoorTo, QuarterFrom, QuarterTo}
+use Rattle.pool.specs.declared.Field.the-variants.{Left, Number, RankKind, StaffFrom, StaffTo, DoorFrom, DoorTo, QuarterFrom, QuarterTo}
 use Rattle.pool.specs.Layout.{fieldOf, place}
 
 unfoldable pub grantAt : List ℕ → ℕ → Grant
@@ -38,26 +37,14 @@ grantAt w k =
 abbrev pub grantFields : List Field
 grantFields = Number ∷ RankKind ∷ StaffFrom ∷ StaffTo ∷ DoorFrom ∷ DoorTo ∷ QuarterFrom ∷ QuarterTo ∷ []
 
-abbrev pub ofGrant : Field → Bool
-ofGrant Left = false
-ofGrant Right = false
-ofGrant Number = true
-ofGrant RankKind = true
-ofGrant StaffFrom = true
-ofGrant StaffTo = true
-ofGrant DoorFrom = true
-ofGrant DoorTo = true
-ofGrant QuarterFrom = true
-ofGrant QuarterTo = true
-
 abbrev pub wordsAt : List ℕ → ℕ → List ℕ
 wordsAt w k = map (fieldOf w k) grantFields
 
 abbrev pub grantWords : Grant → List ℕ
 grantWords g = g .number ∷ (g .rank * 2 + kindNumber (g .kind)) ∷ boxValues (g .bounds)
 
-abbrev pub cellOf : ℕ → ℕ → Grant → List ℕ
-cellOf l r g = l ∷ r ∷ grantWords g
+abbrev pub cellOf : ℕ → ℕ → Grant → ℕ → List ℕ
+cellOf l r g p = l ∷ r ∷ grantWords g ++ (p ∷ [])
 
 unfoldable pub withCell : List ℕ → ℕ → List ℕ → List ℕ
 withCell w k ws = sets w (place k Left) ws

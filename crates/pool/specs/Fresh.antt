@@ -1,4 +1,4 @@
--- Free cells, and the words that start makes (document 01, "The tree": a free cell has the next free cell in left and zeros elsewhere;
+-- Free cells, and the words that start makes (document 01, "The tree": a free cell has the next free cell in left and zeros elsewhere, its parent too;
 -- start makes an empty index, free cells in rising order).
 --   freeCell next     the words of a free cell
 --   freeCells n k     n free cells from cell k on, each leading to the one after it, the last to none

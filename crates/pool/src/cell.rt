@@ -56,10 +56,10 @@ fn store_cell(pool: &mut [u16], cell: usize, words: [u16; CELL_WORDS])
     }
 }
 
-// Stores a grant as a node without children.
-pub fn store_grant(pool: &mut [u16], cell: usize, g: Grant)
+// Stores a grant as a node without children below its parent.
+pub fn store_grant(pool: &mut [u16], cell: usize, g: Grant, parent: u16)
     requires { ⌜ InPool (now pool) cell ⌝ }
-    ensures { λ r. ⌜ now (pool .exit) ≡ withCell (now (pool .entry)) cell (cellOf 0 0 g) ⌝ }
+    ensures { λ r. ⌜ now (pool .exit) ≡ withCell (now (pool .entry)) cell (cellOf 0 0 g parent) ⌝ }
 {
     let b = g.bounds;
     let kind = g.kind;
@@ -75,6 +75,7 @@ pub fn store_grant(pool: &mut [u16], cell: usize, g: Grant)
         b.door_to,
         b.quarter_from,
         b.quarter_to,
+        parent,
     ];
     store_cell(pool, cell, words);
 }
@@ -84,5 +85,5 @@ pub fn store_free(pool: &mut [u16], cell: usize, next: u16)
     requires { ⌜ InPool (now pool) cell ⌝ }
     ensures { λ r. ⌜ now (pool .exit) ≡ withCell (now (pool .entry)) cell (freeCell next) ⌝ }
 {
-    store_cell(pool, cell, [next, 0, 0, 0, 0, 0, 0, 0, 0, 0]);
+    store_cell(pool, cell, [next, 0, 0, 0, 0, 0, 0, 0, 0, 0, 0]);
 }

@@ -16,7 +16,7 @@ pub const FREE: usize = 2;
 
 const HEADER_WORDS: usize = 3;
 
-pub const CELL_WORDS: usize = 10;
+pub const CELL_WORDS: usize = 11;
 
 pub const MAX_CAPACITY: usize = MAX_GRANTS;
 
@@ -44,6 +44,7 @@ fn offset_of(f: Field) -> usize
         Field::DoorTo => 7,
         Field::QuarterFrom => 8,
         Field::QuarterTo => 9,
+        Field::Parent => 10,
     }
 }
 

@@ -16,4 +16,5 @@ pub enum Field {
     DoorTo,
     QuarterFrom,
     QuarterTo,
+    Parent,
 }

@@ -108,7 +108,7 @@ module _ (w : List ℕ) (r : Request) where
   unfolding InsertionPlanned added refusing
   added-refused fault e = rw (added, e)
 
-  pub added-done : (link parent free next : ℕ) {v : List ℕ} → SlotPlanned w r (insertion.At link parent free next) → v ≡ inserted w link (requested r) → v ≡ added w r
+  pub added-done : (link parent free next : ℕ) {v : List ℕ} → SlotPlanned w r (insertion.At link parent free next) → v ≡ inserted w link parent (requested r) → v ≡ added w r
   unfolding InsertionPlanned added refusing
   added-done link parent free next p e = e ∙ rw (added, p .passes, p .way)
 

@@ -25,7 +25,7 @@ pub enum Insertion {
     Refused(Fault),
     At {
         link: usize,
-        parent: usize,
+        parent: u16,
         free: usize,
         next: u16,
     },
@@ -56,7 +56,7 @@ fn plan_free(
     pool: &[u16],
     cells: usize,
     link: usize,
-    parent: usize,
+    parent: u16,
     number: u16,
     rank: u8,
     kind: u8,
@@ -116,9 +116,9 @@ pub fn add(pool: &mut [u16], cells: usize, g: Grant)
         Insertion::Refused(_) => {}
         Insertion::At {
             link,
-            parent: _,
+            parent,
             free,
             next,
-        } => insert(pool, link, free, next, g),
+        } => insert(pool, link, parent, free, next, g),
     }
 }

@@ -2,10 +2,13 @@
 
 pub mod boxes;
 pub mod case;
+pub mod chains;
 pub mod damage;
 pub mod file_cases;
 pub mod histories;
 pub mod openings;
+pub mod other_parents;
+pub mod pools;
 pub mod random;
 pub mod scramble;
 pub mod styles;

@@ -2,7 +2,10 @@
 
 use crate::cases::boxes::near;
 use crate::cases::case::Case;
+use crate::cases::chains::{chain, doubled_chain, removal_trap, unmet_link};
 use crate::cases::histories::set_of_grants;
+use crate::cases::other_parents::{damage_one, damage_unmet};
+use crate::cases::pools::{changed, cycle, doubled, emptied, lowered, made, noise, plausible, reversed, wrong_frame};
 use crate::cases::random::Random;
 use crate::cases::styles::{quarter_near, spoil, Style};
 use crate::interface::call::Call;
@@ -10,11 +13,16 @@ use crate::interface::choice::{Choice, CHOICES};
 use crate::interface::grant::{Bounds, Grant, Span, EVERYTHING};
 use crate::oracle::arguments::is_reversed;
 use crate::oracle::file::file_of;
-use crate::oracle::honest::Honest;
-use crate::oracle::layout::{capacity_of, cell_words, left_of, put_cell, right_of, words_for, FREE_HEAD, ROOT};
+use crate::oracle::layout::{capacity_of, cell_words, cells_in};
 use crate::oracle::scrambled::list_hits;
-use crate::oracle::tree::{bounds_in, goes_left, halves, point_of, WHOLE};
+use crate::oracle::tree::bounds_in;
 use crate::oracle::wrong::Wrong;
+
+/// How often calls are drawn for a pool.
+const DRAWS: usize = 12;
+
+/// The calls that need not meet all cells.
+const OF_A_PART: [&str; 7] = ["grant", "revoke", "list", "list_holding", "decide", "write", "match"];
 
 /// A scrambled pool, and a grant that its calls keep to.
 struct Scrambled {
@@ -22,7 +30,7 @@ struct Scrambled {
     grant: Grant,
 }
 
-/// A pool of one of the kinds below, and some calls on it.
+/// A pool of one of the kinds of `pools` and `chains`, and some calls on it; at last it may be begun anew.
 pub fn scrambled(random: &mut Random, most: usize) -> Case {
     let capacity = match random.below(12) {
         0 => 108 + random.below(10),
@@ -31,27 +39,73 @@ pub fn scrambled(random: &mut Random, most: usize) -> Case {
     };
     let style = Style::any(random, capacity);
     let mut grant = style.grant(random);
-    let words = match random.below(13) {
+    let words = match random.below(18) {
         0 => noise(random, capacity),
         1 | 2 => plausible(random, capacity, style),
         3 => cycle(random, capacity, style),
-        4 => chain(random, &grant),
-        5 => removal_trap(random, capacity, &mut grant),
-        6 => wrong_frame(random, capacity),
-        7 => lowered(random, capacity, style),
-        8 => emptied(random, capacity, style),
-        9 | 10 => reversed(random, capacity, style),
+        4 | 5 => doubled(random, capacity, style),
+        6 => doubled_chain(random, &grant),
+        7 | 8 => chain(random, &grant),
+        9 => removal_trap(random, capacity, &mut grant),
+        10 => unmet_link(random, capacity, &mut grant),
+        11 => wrong_frame(random, capacity),
+        12 => lowered(random, capacity, style),
+        13 => emptied(random, capacity, style),
+        14 | 15 => reversed(random, capacity, style),
         _ => changed(random, capacity, style),
     };
     let scrambled = Scrambled { words, grant };
-    let calls = (0..12).flat_map(|_| scrambled.calls(random, style)).collect();
+    let mut calls = scrambled.all_calls(random, style);
+    if random.one_in(2) {
+        calls.insert(0, Call::Revoke(grant.number));
+    }
+    match random.below(8) {
+        0 => calls.push(Call::Start),
+        1 => calls.push(Call::Load(file(random, style, grant.bounds[1]).into())),
+        _ => {}
+    }
+    Case { pool: scrambled.words, calls }
+}
+
+/// The pool of a history with another parent in one cell, or in all cells that the first call doesn't meet. Where the grants have one box,
+/// it is deep enough for cells that a number's search doesn't meet.
+pub fn other_parents(random: &mut Random) -> Case {
+    let capacity = 1 + random.below(40);
+    let style = match random.below(3) {
+        0 => Style::deep(random),
+        1 => Style::uniform(),
+        _ => Style::any(random, capacity),
+    };
+    let mut scrambled = Scrambled { words: made(random, capacity, style), grant: style.grant(random) };
+    let mut calls = scrambled.all_calls(random, style);
+    if random.one_in(2) {
+        damage_one(random, &mut scrambled.words);
+    } else {
+        let name = random.pick(&OF_A_PART);
+        let first = scrambled.call_of(random, style, name);
+        damage_unmet(random, &mut scrambled.words, &first);
+        calls.insert(0, first);
+    }
     Case { pool: scrambled.words, calls }
 }
 
 impl Scrambled {
+    fn all_calls(&self, random: &mut Random, style: Style) -> Vec<Call> {
+        (0..DRAWS).flat_map(|_| self.calls(random, style)).collect()
+    }
+
+    /// The first call of a name that is drawn.
+    fn call_of(&self, random: &mut Random, style: Style, name: &str) -> Call {
+        loop {
+            if let Some(call) = self.calls(random, style).into_iter().find(|call| call.name() == name) {
+                return call;
+            }
+        }
+    }
+
     /// A number from a cell, or the grant's, or any.
     fn number(&self, random: &mut Random) -> u16 {
-        let cells = self.words.len().saturating_sub(3) / 10;
+        let cells = cells_in(&self.words);
         match random.below(4) {
             0 => self.grant.number,
             1 => random.word(),
@@ -62,7 +116,7 @@ impl Scrambled {
 
     /// All staff and doors, and quarters from just before those of a cell or not, to just behind them or not.
     fn around_a_cell(&self, random: &mut Random) -> Bounds {
-        let cells = self.words.len().saturating_sub(3) / 10;
+        let cells = cells_in(&self.words);
         if cells == 0 {
             return EVERYTHING;
         }
@@ -74,7 +128,7 @@ impl Scrambled {
 
     /// A box near a cell's, of which staff and doors are put in order and quarters that cover none are widened by one on each side.
     fn near_a_cell(&self, random: &mut Random) -> Bounds {
-        let cells = self.words.len().saturating_sub(3) / 10;
+        let cells = cells_in(&self.words);
         if cells == 0 {
             return EVERYTHING;
         }
@@ -101,7 +155,7 @@ impl Scrambled {
 
     /// How many cells list takes; 0 where it doesn't walk.
     fn hits(&self, asked: &Bounds, choice: Choice) -> usize {
-        let is_pool = capacity_of(&self.words).is_some_and(|capacity| capacity == usize::from(self.words[0]));
+        let is_pool = capacity_of(&self.words, Wrong::Nothing).is_some_and(|capacity| capacity == usize::from(self.words[0]));
         match is_pool && !is_reversed(asked, Wrong::Nothing) {
             true => list_hits(&self.words, asked, choice),
             false => 0,
@@ -152,200 +206,4 @@ fn file(random: &mut Random, style: Style, doors: Span) -> Vec<u8> {
         _ => {}
     }
     file
-}
-
-/// Any words behind a right first one.
-fn noise(random: &mut Random, capacity: usize) -> Vec<u16> {
-    let mut words: Vec<u16> = (0..words_for(capacity)).map(|_| random.word()).collect();
-    words[0] = capacity as u16;
-    if random.one_in(2) {
-        words[ROOT] = 1;
-    }
-    words
-}
-
-/// A link that mostly leads to a cell.
-fn link(random: &mut Random, capacity: usize) -> u16 {
-    match random.below(20) {
-        0 => capacity as u16 + 1,
-        1 => random.word(),
-        2..=11 => 0,
-        _ => random.below(capacity + 1) as u16,
-    }
-}
-
-/// Cells with grants in them and links to anywhere.
-fn plausible(random: &mut Random, capacity: usize, style: Style) -> Vec<u16> {
-    let mut words = vec![0; words_for(capacity)];
-    words[0] = capacity as u16;
-    words[ROOT] = 1;
-    words[FREE_HEAD] = link(random, capacity);
-    for cell in 1..=capacity as u16 {
-        let (left, right) = (link(random, capacity), link(random, capacity));
-        put_cell(&mut words, cell, left, right, Some(&style.grant(random)));
-    }
-    words
-}
-
-/// Every link 1, or links to themselves, or a ring; on the left, the right or both.
-fn cycle(random: &mut Random, capacity: usize, style: Style) -> Vec<u16> {
-    let mut words = plausible(random, capacity, style);
-    let kind = random.below(3);
-    let sides = 1 + random.below(3);
-    for cell in 1..=capacity as u16 {
-        let next = match kind {
-            0 => 1,
-            1 => cell,
-            _ => cell % capacity as u16 + 1,
-        };
-        words[left_of(cell)] = if sides & 1 != 0 { next } else { 0 };
-        words[right_of(cell)] = if sides & 2 != 0 { next } else { 0 };
-    }
-    words
-}
-
-/// Links one cell behind the other along a point's way down, `length` cells from the root; the cells hold the grants given.
-fn put_chain(words: &mut [u16], along: &Grant, length: usize, mut held: impl FnMut(usize) -> Grant) {
-    let point = point_of(along.number, &along.bounds);
-    let mut region = WHOLE;
-    let mut place = ROOT;
-    for level in 0..length {
-        let cell = level as u16 + 1;
-        words[place] = cell;
-        put_cell(words, cell, 0, 0, Some(&held(level)));
-        if level < 112 {
-            let left = goes_left(&point, &region, level, Wrong::Nothing);
-            let (lower, upper) = halves(&region, level);
-            region = if left { lower } else { upper };
-            place = if left { left_of(cell) } else { right_of(cell) };
-        } else {
-            place = left_of(cell);
-        }
-    }
-}
-
-/// Cells along a grant's own way down, to level 111, 112 or below; the last may hold its number, or have links.
-fn chain(random: &mut Random, grant: &Grant) -> Vec<u16> {
-    let length = 111 + random.below(5);
-    let capacity = length + random.below(3);
-    let mut words = vec![0; words_for(capacity)];
-    words[0] = capacity as u16;
-    let own = random.below(2 * length);
-    put_chain(&mut words, grant, length, |level| Grant {
-        number: if level == own { grant.number } else { grant.number ^ 1 },
-        ..*grant
-    });
-    let last = length as u16;
-    match random.below(6) {
-        0 => words[left_of(last)] = link(random, capacity),
-        1 => words[right_of(last)] = link(random, capacity),
-        2 => words[right_of(last - 1)] = link(random, capacity),
-        _ => {}
-    }
-    words[FREE_HEAD] = match random.below(3) {
-        0 => 0,
-        1 => link(random, capacity),
-        _ => capacity as u16,
-    };
-    words
-}
-
-/// A hit at level 6 whose left link is outside the number's range: only the removal walk goes there.
-fn removal_trap(random: &mut Random, capacity: usize, grant: &mut Grant) -> Vec<u16> {
-    let capacity = capacity.max(9);
-    grant.number |= 0x8000;
-    let mut words = vec![0; words_for(capacity)];
-    words[0] = capacity as u16;
-    put_chain(&mut words, grant, 7, |level| Grant { number: if level == 6 { grant.number } else { 1 + level as u16 }, ..*grant });
-    words[left_of(7)] = 8;
-    match random.below(5) {
-        0 => words[left_of(7)] = capacity as u16 + 1 + random.below(3) as u16,
-        1 => words[left_of(8)] = 8,
-        2 => words[right_of(8)] = 8,
-        3 => (words[left_of(8)], words[right_of(8)]) = (9, capacity as u16 + 1),
-        _ => words[right_of(8)] = random.word(),
-    }
-    words[FREE_HEAD] = link(random, capacity);
-    words
-}
-
-/// A first word that is not C, or a length that no pool has.
-fn wrong_frame(random: &mut Random, capacity: usize) -> Vec<u16> {
-    let mut words = Honest::start(capacity, Wrong::Nothing).words;
-    match random.below(4) {
-        0 => words[0] = random.word(),
-        1 => words.resize(random.pick(&[0, 1, 2, 3, 4, 12, 14, 22, 20482, 20484, 20493]), 0),
-        2 => words.resize(words.len() + 65536, 0),
-        _ => words[0] = words[0].wrapping_add(random.pick(&[1, 65535, 2048])),
-    }
-    words
-}
-
-/// The pool of an honest history with ranks made too low for their doors: its links are sound, and no cell is wrong by what it holds.
-fn lowered(random: &mut Random, capacity: usize, style: Style) -> Vec<u16> {
-    let grants = set_of_grants(random, style, capacity, (0, 65535));
-    let mut words = Honest::load(capacity, &grants, Wrong::Nothing).words;
-    for cell in 1..=capacity as u16 {
-        if random.one_in(2) {
-            let rank_word = left_of(cell) + 3;
-            words[rank_word] %= 2 * 200;
-        }
-    }
-    words
-}
-
-/// The pool of an honest history with the quarters of some cells made such as no grant has: equal, reversed, or overlapped by no box.
-fn emptied(random: &mut Random, capacity: usize, style: Style) -> Vec<u16> {
-    let grants = set_of_grants(random, style, capacity, (0, 65535));
-    let mut words = Honest::load(capacity, &grants, Wrong::Nothing).words;
-    for cell in 1..=capacity as u16 {
-        let quarters = &mut words[left_of(cell) + 8..][..2];
-        let (from, to) = (quarters[0], quarters[1]);
-        let odd = match random.below(6) {
-            0 => [from, from],
-            1 => [to, to],
-            2 => [to, from],
-            3 => [65535, to],
-            4 => [from, 0],
-            _ => [from, to],
-        };
-        quarters.copy_from_slice(&odd);
-    }
-    words
-}
-
-/// The pool of an honest history with the staff or the doors of some cells reversed.
-fn reversed(random: &mut Random, capacity: usize, style: Style) -> Vec<u16> {
-    let grants = set_of_grants(random, style, capacity, (0, 65535));
-    let mut words = Honest::load(capacity, &grants, Wrong::Nothing).words;
-    for cell in 1..=capacity as u16 {
-        let spans = &mut words[left_of(cell) + 4..][..4];
-        match random.below(4) {
-            0 => spans.swap(0, 1),
-            1 => spans.swap(2, 3),
-            _ => {}
-        }
-    }
-    words
-}
-
-/// The pool of an honest history with a few words changed.
-fn changed(random: &mut Random, capacity: usize, style: Style) -> Vec<u16> {
-    let grants = set_of_grants(random, style, capacity, (0, 65535));
-    let mut words = Honest::load(capacity, &grants, Wrong::Nothing).words;
-    for _ in 0..1 + random.below(3) {
-        let cell = random.below(capacity) as u16 + 1;
-        let place = match random.below(6) {
-            0 => ROOT,
-            1 => FREE_HEAD,
-            2 => left_of(cell),
-            3 => right_of(cell),
-            _ => random.below(words.len() - 1) + 1,
-        };
-        words[place] = match random.one_in(4) {
-            true => random.word(),
-            false => link(random, capacity),
-        };
-    }
-    words
 }

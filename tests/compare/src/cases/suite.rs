@@ -7,7 +7,7 @@ use crate::cases::file_cases::{
 use crate::cases::histories::history;
 use crate::cases::openings::{falling_quarters, full_records, long_records, small_records, too_many_entries, two_faults};
 use crate::cases::random::Random;
-use crate::cases::scramble::scrambled;
+use crate::cases::scramble::{other_parents, scrambled};
 use crate::cases::styles::Style;
 
 pub enum Family {
@@ -23,12 +23,19 @@ pub type Visit<'a, E> = &'a mut dyn FnMut(Family, &Case) -> Result<(), E>;
 /// Numbers of grants at which blocks are just full or just begun; from 63 on there is a middle block of records.
 const FILE_SIZES: [usize; 9] = [63, 0, 1, 30, 31, 32, 62, 93, 100];
 
+/// How many scrambled pools a round has, and how many more with other parents.
+const SCRAMBLED: usize = 180;
+const OTHER_PARENTS: usize = 40;
+
 pub fn round<E>(random: &mut Random, i: usize, visit: Visit<E>) -> Result<(), E> {
     histories(random, i, visit)?;
     files(random, i, visit)?;
     openings(random, visit)?;
-    for _ in 0..150 {
+    for _ in 0..SCRAMBLED {
         visit(Family::Scrambled, &scrambled(random, 130))?;
+    }
+    for _ in 0..OTHER_PARENTS {
+        visit(Family::Scrambled, &other_parents(random))?;
     }
     Ok(())
 }

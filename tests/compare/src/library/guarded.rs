@@ -1,6 +1,7 @@
 //! Memory with guards on both sides that must stay.
 
-const GUARDS: usize = 8;
+/// As many as the words of a cell, and more: what is stored in the cell behind a pool's last is seen.
+const GUARDS: usize = 16;
 
 /// Memory with guards before and behind it.
 pub struct Guarded<T> {

@@ -34,9 +34,10 @@ impl Honest {
     /// Start, and then grants in file order.
     pub fn load(capacity: usize, grants: &[Grant], wrong: Wrong) -> Honest {
         let mut loaded = Honest::start(capacity, wrong);
+        let by_insert = if wrong == Wrong::LoadStoresNoParent { Wrong::GrantStoresNoParent } else { wrong };
         for grant in grants {
             if loaded.book.grant(*grant).is_ok() {
-                insert(&mut loaded.words, grant, wrong);
+                insert(&mut loaded.words, grant, by_insert);
             }
         }
         loaded

@@ -1,13 +1,16 @@
-//! Document 01's marked cases, and cases of document 02's cards 2 and 4, tried on the plain implementation: what the library is held against is
-//! itself held to the papers.
+//! Document 01's marked cases, and cases of document 02's cards 2, 4 and 6, tried on the plain implementation: what the library is held against
+//! is itself held to the papers.
 
 use crate::interface::choice::Choice;
 use crate::interface::grant::{Grant, EVERYTHING};
 use crate::oracle::book::Book;
 use crate::oracle::file::check;
+use crate::oracle::layout::{parent_of, words_for, ROOT};
 use crate::oracle::overlap::{box_holds, boxes_overlap, spans_overlap};
 use crate::oracle::relation::{relation, Relation};
+use crate::oracle::sound::is_sound;
 use crate::oracle::tree::{goes_left, halves, holds, point_of, range_of, WHOLE};
+use crate::oracle::words::{fresh, insert, remove};
 use crate::oracle::wrong::Wrong;
 
 /// The marked cases that the plain implementation gets wrong.
@@ -18,6 +21,7 @@ pub fn failing() -> Vec<&'static str> {
         ("doors", doors_hold()),
         ("quarters", quarters_hold()),
         ("holding", holding_holds()),
+        ("parents", parents_hold()),
         ("slips", slips_hold()),
     ];
     cases.into_iter().filter(|(_, holds)| !holds).map(|(name, _)| name).collect()
@@ -65,6 +69,26 @@ fn holding_holds() -> bool {
         ([(100, 199), (1, 40), (88, 89)], Relation::Apart),
     ];
     cases.iter().all(|(asked, right)| relation(&grant, asked, Wrong::Nothing) == *right)
+}
+
+/// Of three grants the first is at the root, above the others. When it is revoked, its left child takes its place and is the right one's
+/// parent. With any other parent the pool is not sound.
+fn parents_hold() -> bool {
+    let lengths = (words_for(1), words_for(2048)) == (14, 22531);
+    let grant = |number, staff| Grant { number, rank: 200, kind: 1, bounds: [(staff, 65535), EVERYTHING[1], EVERYTHING[2]] };
+    let [first, left, right] = [grant(1, 0), grant(2, 0), grant(3, 32768)];
+    let parents = |words: &[u16]| [1, 2, 3].map(|cell| words[parent_of(cell)]);
+    let mut words = fresh(3);
+    [first, left, right].iter().for_each(|grant| insert(&mut words, grant, Wrong::Nothing));
+    let granted = parents(&words) == [0, 1, 1] && is_sound(&words, &[first, left, right]);
+    remove(&mut words, &first, Wrong::Nothing);
+    let revoked = parents(&words) == [0, 0, 2] && words[ROOT] == 2 && is_sound(&words, &[left, right]);
+    let unsound = [1, 2, 3].iter().all(|cell| {
+        let mut other = words.clone();
+        other[parent_of(*cell)] ^= 1;
+        !is_sound(&other, &[left, right])
+    });
+    lengths && granted && revoked && unsound
 }
 
 /// The slips of the papers, as calls on the book.

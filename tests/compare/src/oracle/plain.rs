@@ -9,9 +9,11 @@ use crate::oracle::arguments::{argument_fault, is_reversed_by_equal_quarters, is
 use crate::oracle::block_read;
 use crate::oracle::honest::Honest;
 use crate::oracle::judge::{self, judge, Contents};
-use crate::oracle::layout::capacity_of;
+use crate::oracle::layout::{capacity_of, older_capacity_of};
 use crate::oracle::openings;
+use crate::oracle::parents;
 use crate::oracle::positions::Asked;
+use crate::oracle::removals;
 use crate::oracle::scrambled;
 use crate::oracle::sound::grants_in;
 use crate::oracle::wrong::Wrong;
@@ -24,7 +26,7 @@ pub struct Expected {
     /// The pool's words are free: an accepted grant or revoke on a scrambled pool.
     pub pool_is_free: bool,
     /// What was reached that a run must reach, in words: the cause of a refusal, how decide is answered at the last quarters, how the box
-    /// of a list lies.
+    /// of a list lies, what a revoke takes out, which parents give 9 and which don't.
     pub reached: Vec<String>,
 }
 
@@ -84,15 +86,17 @@ impl Plain {
 
     pub fn step(&mut self, call: &Call) -> Expected {
         let mut lent = Lent::before(call);
+        let removal = self.removal(call);
         let outcome = self.answer(call, &mut lent);
         let free = matches!(outcome, Ok(None));
         let mut reached = match &outcome {
             Ok(_) | Err((Fault { number: 8, .. }, _)) => self.positions(call),
             Err(_) => Vec::new(),
         };
+        reached.extend(self.of_parents(call, outcome.as_ref().err().map(|(fault, _)| fault.number)));
         let answer = match outcome {
             Ok(answer) => {
-                reached.extend(self.at_the_last_quarters(call));
+                reached.extend(self.at_the_last_quarters(call).into_iter().chain(removal));
                 answer
             }
             Err((fault, cause)) => {
@@ -136,7 +140,11 @@ impl Plain {
     /// C where the pool's length is right and, except in start and load, its first word too.
     fn capacity(&self, call: &Call) -> Option<usize> {
         let words = self.words();
-        let capacity = capacity_of(words)?;
+        let older = match (call, self.wrong) {
+            (Call::Start, Wrong::StartTakesTheOlderLength) => older_capacity_of(words),
+            _ => None,
+        };
+        let capacity = capacity_of(words, self.wrong).or(older)?;
         let any_first = match call {
             Call::Start => self.wrong != Wrong::StartReadsTheFirstWord,
             _ => matches!(call, Call::Load(_)),
@@ -203,6 +211,34 @@ impl Plain {
             Standing::Scrambled(words) => asked.of_cells(words, &scrambled::list_walk(words, bounds, *choice, self.wrong).0),
         };
         positions.into_iter().map(|position| format!("{} {position}", call.name())).collect()
+    }
+
+    /// What a revoke takes out, should it be accepted: its cell's shape on a pool that calls made; on another, a link above C.
+    fn removal(&self, call: &Call) -> Option<String> {
+        let Call::Revoke(number) = call else {
+            return None;
+        };
+        if self.wrong != Wrong::Nothing {
+            return None;
+        }
+        match &self.standing {
+            Standing::Honest(honest) => honest.book.find(*number).map(|grant| removals::shape(&honest.words, grant)),
+            Standing::Scrambled(words) => self.capacity(call).and_then(|_| removals::unmet_link(words, *number)),
+        }
+    }
+
+    /// Of a call that walked on a scrambled pool, with the number of its fault: the parents that gave it 9, or that didn't.
+    fn of_parents(&self, call: &Call, fault: Option<u8>) -> Vec<String> {
+        let walks = match call {
+            Call::Decide([_, _, quarter]) => *quarter != LAST_QUARTER,
+            Call::Grant(_) | Call::Revoke(_) | Call::List(..) | Call::Count | Call::Write(..) | Call::Match(_) => true,
+            _ => false,
+        };
+        let walked = walks && matches!(fault, None | Some(5..=9 | 14));
+        match &self.standing {
+            Standing::Scrambled(words) if walked && self.wrong == Wrong::Nothing => parents::seen(words, call, fault == Some(9)),
+            _ => Vec::new(),
+        }
     }
 
     /// Of an accepted decide: that a grant decides at 65534; that none does at 65535 although one does a quarter before, or although 9

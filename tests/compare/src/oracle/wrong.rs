@@ -107,12 +107,27 @@ pub enum Wrong {
     HoldingEightBeforeNine,
     HoldingStrictAt(End),
     HoldingLooseAt(End),
+    CellsOfTenWords,
+    StartTakesTheOlderLength,
+    GrantStoresNoParent,
+    LoadStoresNoParent,
+    LeftChildKeepsItsParent,
+    RightChildKeepsItsParent,
+    TerminalKeepsItsParent,
+    ChildrenTakenBeforeTheCut,
+    FreedCellKeepsItsParent,
+    RootsParentNotTested,
+    ChildsParentNotTested,
+    RemovalTestsNoParent,
+    FreeCellsParentTested,
+    UnmetParentTested,
+    CellMetTwiceRefused,
     /// Not one of `ALL`: no box that fault 2 lets through shows it, as `points` tries.
     HoldsTestedFirst,
 }
 
 /// All of them that a call can show.
-pub const ALL: [Wrong; 111] = [
+pub const ALL: [Wrong; 126] = [
     Wrong::LowerNumberAtEqualRank,
     Wrong::EndsOutsideTheBox,
     Wrong::ListDescending,
@@ -224,4 +239,19 @@ pub const ALL: [Wrong; 111] = [
     Wrong::HoldingLooseAt(End::DoorTo),
     Wrong::HoldingLooseAt(End::QuarterFrom),
     Wrong::HoldingLooseAt(End::QuarterTo),
+    Wrong::CellsOfTenWords,
+    Wrong::StartTakesTheOlderLength,
+    Wrong::GrantStoresNoParent,
+    Wrong::LoadStoresNoParent,
+    Wrong::LeftChildKeepsItsParent,
+    Wrong::RightChildKeepsItsParent,
+    Wrong::TerminalKeepsItsParent,
+    Wrong::ChildrenTakenBeforeTheCut,
+    Wrong::FreedCellKeepsItsParent,
+    Wrong::RootsParentNotTested,
+    Wrong::ChildsParentNotTested,
+    Wrong::RemovalTestsNoParent,
+    Wrong::FreeCellsParentTested,
+    Wrong::UnmetParentTested,
+    Wrong::CellMetTwiceRefused,
 ];

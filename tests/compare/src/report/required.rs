@@ -1,9 +1,11 @@
 //! What a run must have seen: each fault of each call by the documents' order line, 16 together with each other fault of grant, 2 by equal
-//! quarters alone, each cause of 9 in each walk, each cause of 11, 12 and 13 in each block that can have it, each cause of 24 and 25 in
-//! either record of openings; hits whose quarters cover nothing, and decide at the last quarters; under either choice of list, boxes at
-//! each end of a grant, lists one too short, and cells that no grant is like.
+//! quarters alone, each cause of 9 in each walk that can meet it, each cause of 11, 12 and 13 in each block that can have it, each cause of
+//! 24 and 25 in either record of openings; hits whose quarters cover nothing, and decide at the last quarters; under either choice of list,
+//! boxes at each end of a grant, lists one too short, and cells that no grant is like; another parent at each place of a cell, met or not;
+//! revokes of cells of every shape, and of one with a link above C that isn't met.
 
 use crate::interface::grant::ENDS;
+use crate::oracle::parents::{of_parent, PLACES};
 use std::collections::BTreeMap;
 
 const BY_CALL: [(&str, &[u8]); 8] = [
@@ -49,7 +51,9 @@ const OF_CELLS: [&str; 5] = [
     "a cell with equal quarters",
     "a cell that holds the box, met twice",
 ];
-const OF_NINE: [&str; 3] = ["a link above C", "a cell below level 112", "more than C cells"];
+const OF_NINE: [&str; 4] = ["a link above C", "a cell below level 112", "a parent that is another cell", "more than C cells"];
+/// A removal walk meets no cell twice.
+const OF_REMOVAL: [&str; 3] = ["a link above C", "a cell below level 112", "a parent that is another cell"];
 const OTHER_WALKS: [&str; 3] =
     ["grant 9 way down: a cell below level 112", "grant 9 free head: a link above C", "grant 9 free cell's left: a link above C"];
 const OF_FRAMES: [&str; 4] = ["12 check", "11 mark", "11 older mark", "11 block number"];
@@ -66,6 +70,19 @@ const OF_RECORDS: [&str; 9] = [
     "doors not touching",
 ];
 
+/// What can't be: the number's search has met the cells of grant's way down, and a removal walk meets no cell twice.
+const IMPOSSIBLE: [&str; 4] = [
+    "grant 9 way down: a link above C",
+    "grant 9 way down: a parent that is another cell",
+    "grant 9 way down: more than C cells",
+    "revoke 9 removal: more than C cells",
+];
+
+/// What was reached that can't be.
+pub fn impossible(reached: &BTreeMap<String, usize>) -> Vec<&'static str> {
+    IMPOSSIBLE.into_iter().filter(|what| reached.contains_key(*what)).collect()
+}
+
 /// Those that were not reached.
 pub fn missing(reached: &BTreeMap<String, usize>) -> Vec<String> {
     let mut required = of_pools();
@@ -77,6 +94,8 @@ pub fn missing(reached: &BTreeMap<String, usize>) -> Vec<String> {
     }
     required.push("load 6".to_string());
     required.extend(["list", "list_holding"].iter().flat_map(|call| of_lists(call)));
+    required.extend(SEARCHING.iter().flat_map(|call| of_parents(call)));
+    required.extend(of_revokes());
     required.extend(of_block_read());
     required.extend(of_openings());
     required.retain(|what| !reached.contains_key(what));
@@ -87,7 +106,7 @@ fn of_pools() -> Vec<String> {
     let by_call = BY_CALL.iter().flat_map(|(call, faults)| faults.iter().map(move |fault| format!("{call} {fault}")));
     let scrambled = ON_SCRAMBLED.iter().map(|refusal| format!("{refusal} on a scrambled pool"));
     let searches = SEARCHING.iter().flat_map(|call| OF_NINE.iter().map(move |cause| format!("{call} 9 search: {cause}")));
-    let removals = OF_NINE.iter().map(|cause| format!("revoke 9 removal: {cause}"));
+    let removals = OF_REMOVAL.iter().map(|cause| format!("revoke 9 removal: {cause}"));
     let others = OTHER_WALKS.iter().chain(&WITH_SIXTEEN).chain(&WITH_ODD_QUARTERS).chain(&AT_THE_LAST_QUARTERS);
     by_call.chain(scrambled).chain(searches).chain(removals).chain(others.map(|what| what.to_string())).collect()
 }
@@ -100,6 +119,27 @@ fn of_lists(call: &str) -> Vec<String> {
     required.extend(HELD_ON_TWO.iter().map(|two| format!("{call} a box held on {two} alone")));
     required.extend(BY_ROOM.iter().map(|room| format!("{call} {room}")));
     required.extend(BY_ROOM.iter().chain(&OF_CELLS).map(|position| format!("{call} {position}, on a scrambled pool")));
+    required
+}
+
+/// Each place of a cell that a walk meets gives 9, and each of a free cell doesn't; nor does one that isn't met, but count meets all.
+fn of_parents(call: &str) -> Vec<String> {
+    let (met, free) = PLACES.split_at(3);
+    let unmet = if call == "count" { &[] } else { &met[1..] };
+    let nine = met.iter().map(|place| of_parent(true, place));
+    let no_nine = free.iter().chain(unmet).map(|place| of_parent(false, place));
+    nine.chain(no_nine).map(|parent| format!("{call} {parent}")).collect()
+}
+
+fn of_revokes() -> Vec<String> {
+    let mut required = vec!["revoke of a cell with a link above C that isn't met".to_string()];
+    for place in ["the root", "another cell"] {
+        required.push(format!("revoke of {place}, without children"));
+        for children in ["a left child", "a right child", "two children"] {
+            let taken_by = ["a child", "a cell further down"].iter();
+            required.extend(taken_by.map(|cell| format!("revoke of {place}, with {children}, whose place {cell} takes")));
+        }
+    }
     required
 }
 

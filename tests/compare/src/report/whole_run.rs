@@ -81,15 +81,17 @@ pub fn compare(seed: u64, rounds: usize) -> bool {
     let uncaught = self_test::uncaught(seed);
     println!("{}", summary(seed, &counts, uncaught.len()));
     let missing = required::missing(&counts.tally.reached);
+    let impossible = required::impossible(&counts.tally.reached);
     let failing = failing();
     let ties_are_common = counts.tally.ties * DECISIONS_PER_TIE >= counts.tally.decisions.max(1);
     missing.iter().for_each(|refusal| println!("compare: not reached: {refusal}"));
+    impossible.iter().for_each(|refusal| println!("compare: reached, and can't be: {refusal}"));
     uncaught.iter().for_each(|wrong| println!("compare: not caught: {wrong:?}"));
     failing.iter().for_each(|what| println!("compare: {what}"));
     if !ties_are_common {
         println!("compare: fewer than one decision in {DECISIONS_PER_TIE} was between grants of equal rank");
     }
-    missing.is_empty() && uncaught.is_empty() && failing.is_empty() && ties_are_common
+    missing.is_empty() && impossible.is_empty() && uncaught.is_empty() && failing.is_empty() && ties_are_common
 }
 
 /// What the comparison itself has wrong.

@@ -1,6 +1,6 @@
 -- `insert::find_slot` meets its contract. The invariant looks forward: the rest of the way is the whole way. Assumes nothing.
 use lib.Dec.{lit≤}
-use Rattle.adt.proofs.DescentSteps.{descent-end, descent-blank, descent-above, descent-full, descent-next}
+use Rattle.adt.proofs.DescentSteps.{descent-end, descent-blank, descent-above, descent-full, descent-parent, descent-next}
 use Rattle.adt.specs.Insert.{descendFrom, descend}
 use Rattle.pool.proofs.CapacityLaws.{capacityOf-poolLength}
 use lib.ListN.{length}
@@ -42,11 +42,11 @@ loop-holds c =
 sub-below : tie.Need-sub-below Inv-loop μ-loop
 sub-below c = search needs
 
-mul-wide : tie.Need-mul-wide Inv-loop μ-loop
-mul-wide c = search needs
+mul-child : tie.Need-mul-child Inv-loop μ-loop
+mul-child c = search needs
 
-shared-slice-read-wide : tie.Need-shared-slice-read-wide Inv-loop μ-loop
-shared-slice-read-wide c = search needs
+shared-slice-read-child : tie.Need-shared-slice-read-child Inv-loop μ-loop
+shared-slice-read-child c = search needs
 
 wide-requires : tie.Need-wide-requires Inv-loop μ-loop
 wide-requires c κs = search needs
@@ -72,6 +72,20 @@ returns-3 c =
     let read = one .before in
     let inner = read .before .before in
     descent-full _ _ _ _ _ _ _ _ _ (inner .loop-test .taken) (read .wide .ensures .0) (one .if1 .left) (two .if2 .left) (c .if3 .taken)
+    ∙ inner .before .loop .inv .4
+
+field-requires : tie.Need-field-requires Inv-loop μ-loop
+field-requires c κs = search needs
+
+returns-4 : tie.Need-returns-4 Inv-loop μ-loop
+returns-4 c =
+    let three = c .before .before in
+    let two = three .before in
+    let one = two .before in
+    let read = one .before in
+    let inner = read .before .before in
+    descent-parent _ _ _ _ _ _ _ _ _ (inner .loop-test .taken) (read .wide .ensures .0) (one .if1 .left) (two .if2 .left) (three .if3 .left)
+    (λ e. c .if4 .taken (c .before .field .ensures ∙ e))
     ∙ inner .before .loop .inv .4
 
 sub-axis-of : tie.Need-sub-axis-of Inv-loop μ-loop
@@ -130,26 +144,28 @@ loop-again c =
     let halved = c .before in
     let sided = halved .before .before .before in
     let axed = sided .before .before in
-    let three = axed .before in
+    let four = axed .before in
+    let three = four .before .before in
     let two = three .before in
     let one = two .before in
     let read = one .before in
     let inner = read .before .before in
     let l = inner .before .loop in
-    let p = inner .before .before .before .before .pre in
+    let start = inner .before .before .before .before in
+    let p = start .pre in
     let axis = axed .axis-of .ensures in
     let half = ap (set (l .region) (axed .axis-of .result)) (halved .half-of .ensures) ∙ set-halfOf _ (l .region) _ (l .inv .3) (axis .1) in (
       omega (arith, l .inv .0),
       omega (arith, c .link-place .ensures .1, p .long, two .if2 .left),
       omega (arith, three .if3 .left),
       subst Shape (sym half) (half-shape _ (l .region) _ (l .inv .3) (axis .1)),
-      descent-next _ _ _ _ _ _ _ _ _ (inner .loop-test .taken) (read .wide .ensures .0) (one .if1 .left) (two .if2 .left) (three .if3 .left)
-          (axis .0) (sided .side-of .ensures) half (c .link-place .ensures .0)
+      descent-next (start .args .pool .now) _ _ _ _ _ _ _ _ (inner .loop-test .taken) (read .wide .ensures .0) (one .if1 .left) (two .if2 .left) (three .if3 .left)
+          (sym (four .before .field .ensures) ∙ four .if4 .left) (axis .0) (sided .side-of .ensures) half (sym (read .wide .ensures .0)) (c .link-place .ensures .0)
           ∙ l .inv .4,
     )
 
-returns-4 : tie.Need-returns-4 Inv-loop μ-loop
-returns-4 c = descent-end _ _ _ _ _ _ _ _ (c .loop-test .left) ∙ c .before .loop .inv .4
+returns-5 : tie.Need-returns-5 Inv-loop μ-loop
+returns-5 c = descent-end _ _ _ _ _ _ _ _ (c .loop-test .left) ∙ c .before .loop .inv .4
 
 pub find-slot-spec : {M : Type 1} → statement M
 find-slot-spec =
@@ -161,12 +177,14 @@ find-slot-spec =
     add-below
     loop-holds
     sub-below
-    mul-wide
-    shared-slice-read-wide
+    mul-child
+    shared-slice-read-child
     wide-requires
     returns
     returns-2
     returns-3
+    field-requires
+    returns-4
     sub-axis-of
     axis-of-requires
     mul-side-of
@@ -185,4 +203,4 @@ find-slot-spec =
     add-met
     loop-less
     loop-again
-    returns-4)
+    returns-5)

@@ -1,23 +1,25 @@
 -- `search::enter` and `search::visit` meet their contracts, in one proof, since they call each other. The measure is twice the levels remaining,
 -- and for `visit` one more: it enters its subtrees with as many, and `enter` visits with one less. Assumes nothing.
-use Prim.Native.Nat.{ℕ, _+_, _-_, _*_, _<_, _≤_}
+use Prim.Native.Nat.{ℕ, _+_, _*_, _<_, _≤_}
 use borrow.Author.Needs.{needs}
 use native.Mathlib.Omega.{arith}
-use borrow.Author.Tests.{not-true, not-false}
+use borrow.Author.Tests.{le-leb, not-true, not-false}
 use mathlib.Core.Logic.{_≢_, ⊎-elim}
-use mathlib.Core.Path.{refl, sym, ap, _∙_}
+use mathlib.Core.Path.{_≡_, refl, sym, ap, _∙_}
 use mathlib.Core.Bool.{true}
 use mathlib.Core.List.{List}
 use lib.ListN.{getD, set}
 use Rattle.geometry.specs.declared.Side.{Side}
 use Rattle.geometry.specs.declared.Side.the-variants.{Left, Right}
+use Rattle.geometry.specs.Levels.{levels}
 use Rattle.geometry.specs.Region.{Region}
 use Rattle.pool.specs.Layout.{fieldOf}
+use Rattle.pool.specs.Capacity.{poolLength}
 use Rattle.adt.specs.Node.{linkPlace}
 use Rattle.adt.specs.Predicate.{testOf, predicateIn}
-use Rattle.adt.specs.SearchMemory.{Counted, Encodes, Visiting, Entering, entered}
-use Rattle.adt.proofs.EnterSteps.{ChildRegion, child-half, child-blank, child-deep, child-apart, child-some, child-past, child-visited}
-use Rattle.adt.proofs.EnterSteps.{encodes-as, visit-cut, visit-left-cut, visit-whole}
+use Rattle.adt.specs.SearchMemory.{Counted, Encodes, Visiting, Entering}
+use Rattle.adt.proofs.EnterSteps.{ChildAt, child-meets, child-half, child-root, child-some, child-deep, child-apart, child-past, child-other, child-visited}
+use Rattle.adt.proofs.EnterSteps.{encodes-as, subtree, subtree-blank, subtree-entered, visit-cut, visit-left-cut, visit-whole}
 use borrow.Fn.Kinds.{In}
 use borrow.Fn.PlainCycle.{Measures, is, falls, and}
 use Rattle.adt.proofs.search.enter.Reads as enter
@@ -66,6 +68,8 @@ enter-calls t = (
   link-place-reads.Learnt,
   wide-reads.Asked,
   wide-reads.Learnt,
+  field-reads.Asked,
+  field-reads.Learnt,
   visit-below t,
   visit.Post,
 )
@@ -73,15 +77,34 @@ enter-calls t = (
 abbrev visit-calls : ℕ → visit-lts.Claims
 visit-calls t = (test-reads.Asked, test-reads.Learnt, field-reads.Asked, field-reads.Learnt, enter-below t, enter.Post)
 
+-- the link of a cell of the pool lies in it
+link-within : {n c p link at : ℕ} → p ≤ c → n ≡ poolLength c → link ≡ at → at < poolLength p → link < n
+link-within few long e near = omega arith
+
+-- where the ways meet: the link and the region that are gone on with
+child-at : (t : ℕ) (c : enter-lts.Joined2 (enter-calls t) (enter-at t) enter.Post)
+    → let a = c .before .before .before .args in
+    ChildAt (a .pool .now) (a .range .now) (a .below) (a .parent) (a .side) (a .t6) (c .if2 .region) (c .if2 .link)
+child-at t c =
+    let start = c .before .before .before in
+    let a = start .args in
+    let p = start .pre .1 in
+    ⊎-elim
+    (λ w.
+    child-half (a .pool .now) (a .range .now) (a .below) (a .parent) (a .side) (a .t6) (w .0 .taken) (w .1 .ensures .0) (w .3 .ensures) (w .1 .ensures .1)
+    (p .shape) (not-false _ (w .4 .left)) (w .9 ∙ ap (set (a .t6) (w .1 .result)) (w .7 .ensures)) (w .10 ∙ w .8 .ensures .0)
+    (link-within (p .cell (w .0 .taken) .1) (p .ready .long) (w .10) (w .8 .ensures .1)))
+    (λ w.
+    child-root (a .pool .now) (a .range .now) (a .below) (a .parent) (a .side) (a .t6) (w .0 .left) (p .shape) (p .meeting) (w .1) (w .2)
+    (omega (arith, w .2, p .ready .long)))
+    (c .if2 .came)
+
 enter-returns : (t : ℕ) → enter-lts.Need-returns (enter-calls t) (enter-at t) enter.Post
 enter-returns t c =
     let start = c .before .before in
     let a = start .args in
     let p = start .pre .1 in
     child-deep (a .pool .now) (a .cells) (a .range .now) _ (a .below) (a .parent) (a .side) (a .t6) (p .ready .counted) (p .leads) (c .if1 .taken)
-
-enter-sub-axis-of : (t : ℕ) → enter-lts.Need-sub-axis-of (enter-calls t) (enter-at t) enter.Post
-enter-sub-axis-of t c = search needs
 
 enter-axis-of-requires : (t : ℕ) → enter-lts.Need-axis-of-requires (enter-calls t) (enter-at t) enter.Post
 enter-axis-of-requires t c κs = search needs
@@ -93,12 +116,14 @@ enter-returns-2 : (t : ℕ) → enter-lts.Need-returns-2 (enter-calls t) (enter-
 enter-returns-2 t c =
     let asked = c .before in
     let axed = asked .before .before in
-    let one = axed .before in
+    let two = axed .before in
+    let one = two .before in
     let start = one .before .before in
     let a = start .args in
     let p = start .pre .1 in
     child-apart (a .pool .now) (a .cells) (a .range .now) _ (a .below) (a .parent) (a .side) (a .t6) (p .ready .counted) (p .leads) (one .if1 .left)
-    (axed .axis-of .ensures .0) (asked .half-meets .ensures) (not-true _ (c .if2 .taken))
+    (child-meets (a .pool .now) (a .range .now) _ (a .parent) (a .side) _ (two .if2 .taken) (axed .axis-of .ensures .0) (asked .half-meets .ensures)
+    ∙ not-true _ (c .if3 .taken))
 
 enter-mul-half-of : (t : ℕ) → enter-lts.Need-mul-half-of (enter-calls t) (enter-at t) enter.Post
 enter-mul-half-of t c = search needs
@@ -128,13 +153,23 @@ enter-array-set-from-region : (t : ℕ) → enter-lts.Need-array-set-from-region
 enter-array-set-from-region t c = search needs
 
 enter-link-place-requires : (t : ℕ) → enter-lts.Need-link-place-requires (enter-calls t) (enter-at t) enter.Post
-enter-link-place-requires t c κs = search needs
+enter-link-place-requires t c κs =
+    let two = c .before .before .before .before .before .before .before in
+    let p = two .before .before .before .pre .1 in
+    let cell = p .cell (two .if2 .taken) in
+    (cell .0, omega (arith, cell .1, p .ready .few))
 
 enter-mul-wide : (t : ℕ) → enter-lts.Need-mul-wide (enter-calls t) (enter-at t) enter.Post
-enter-mul-wide t c = search needs
+enter-mul-wide t c =
+    let joined = c .before in
+    let ready = joined .before .before .before .pre .1 .ready in
+    let near : joined .if2 .link < 65536 = omega (arith, child-at t joined .within, ready .long, ready .few) in
+    search needs
 
 enter-shared-slice-read-wide : (t : ℕ) → enter-lts.Need-shared-slice-read-wide (enter-calls t) (enter-at t) enter.Post
-enter-shared-slice-read-wide t c = search needs
+enter-shared-slice-read-wide t c =
+    let joined = c .before .before in
+    omega (arith, child-at t joined .within)
 
 enter-wide-requires : (t : ℕ) → enter-lts.Need-wide-requires (enter-calls t) (enter-at t) enter.Post
 enter-wide-requires t c κs = search needs
@@ -142,72 +177,82 @@ enter-wide-requires t c κs = search needs
 enter-returns-3 : (t : ℕ) → enter-lts.Need-returns-3 (enter-calls t) (enter-at t) enter.Post
 enter-returns-3 t c =
     let read = c .before in
-    let linked = read .before .before in
-    let halved = linked .before in
-    let two = halved .before .before .before in
-    let asked = two .before in
-    let axed = asked .before .before in
-    let one = axed .before in
+    let joined = read .before .before .before in
+    let one = joined .before in
     let start = one .before .before in
     let a = start .args in
     let p = start .pre .1 in
-    let axis = axed .axis-of .ensures in
-    let child =
-    child-half (a .range .now) (a .below) (a .side) (a .t6) (axis .0) (axis .1) (asked .half-meets .ensures) (not-false _ (two .if2 .left)) (p .shape)
-    (ap (set (a .t6) (axed .axis-of .result)) (halved .half-of .ensures)) in
     child-past (a .pool .now) (a .cells) (a .range .now) _ (a .below) (a .parent) (a .side) (a .t6) (p .ready .counted) (p .leads) (one .if1 .left)
-    (linked .link-place .ensures .0) (read .wide .ensures .0) child (c .if3 .taken)
+    (child-at t joined) (read .wide .ensures .0) (c .if4 .taken)
+
+enter-field-requires : (t : ℕ) → enter-lts.Need-field-requires (enter-calls t) (enter-at t) enter.Post
+enter-field-requires t c κs =
+    let read = c .before in
+    let joined = read .before .before .before in
+    let one = joined .before in
+    let start = one .before .before in
+    let a = start .args in
+    let p = start .pre .1 in
+    let ready = p .ready in
+    let some = child-some (a .pool .now) (p .leads) (child-at t joined .at) (read .wide .ensures .0) in
+    record { some = some; few = omega (arith, ready .few, c .if4 .left); long = omega (arith, ready .long, c .if4 .left) }
+
+enter-wide-requires-2 : (t : ℕ) → enter-lts.Need-wide-requires-2 (enter-calls t) (enter-at t) enter.Post
+enter-wide-requires-2 t c κs = search needs
+
+enter-returns-4 : (t : ℕ) → enter-lts.Need-returns-4 (enter-calls t) (enter-at t) enter.Post
+enter-returns-4 t c =
+    let tested = c .before in
+    let four = tested .before .before in
+    let read = four .before in
+    let joined = read .before .before .before in
+    let one = joined .before in
+    let start = one .before .before in
+    let a = start .args in
+    let p = start .pre .1 in
+    let named = tested .wide2 .ensures .0 ∙ tested .before .field .ensures in
+    child-other (a .pool .now) (a .cells) (a .range .now) _ (a .below) (a .parent) (a .side) (a .t6) (p .ready .counted) (p .leads) (one .if1 .left)
+    (child-at t joined) (read .wide .ensures .0) (four .if4 .left)
+    (λ e. c .if5 .taken (named ∙ e))
 
 enter-sub-visit : (t : ℕ) → enter-lts.Need-sub-visit (enter-calls t) (enter-at t) enter.Post
 enter-sub-visit t c = search needs
 
 enter-visit-requires : (t : ℕ) → enter-lts.Need-visit-requires (enter-calls t) (enter-at t) enter.Post
 enter-visit-requires t c κs =
-    let three = c .before .before in
-    let read = three .before in
-    let linked = read .before .before in
-    let halved = linked .before in
-    let two = halved .before .before .before in
-    let asked = two .before in
-    let axed = asked .before .before in
-    let one = axed .before in
+    let five = c .before .before in
+    let four = five .before .before .before in
+    let read = four .before in
+    let joined = read .before .before .before in
+    let one = joined .before in
     let start = one .before .before in
     let a = start .args in
     let p = start .pre .1 in
-    let axis = axed .axis-of .ensures in
-    let child =
-    child-half (a .range .now) (a .below) (a .side) (a .t6) (axis .0) (axis .1) (asked .half-meets .ensures) (not-false _ (two .if2 .left)) (p .shape)
-    (ap (set (a .t6) (axed .axis-of .result)) (halved .half-of .ensures)) in
-    let some = child-some (a .pool .now) (a .parent) (a .side) (p .leads) (linked .link-place .ensures .0) (read .wide .ensures .0) in (
+    let some = child-some (a .pool .now) (p .leads) (child-at t joined .at) (read .wide .ensures .0) in (
       omega arith,
       record {
-        testing = record { ready = p .ready; some = some; in-cells = three .if3 .left; one-sided = p .one-sided };
+        testing = record { ready = p .ready; some = some; in-cells = four .if4 .left; one-sided = p .one-sided };
         in-levels = omega (arith, p .in-levels);
-        shape = child .shape;
-        meeting = child .meeting;
+        shape = child-at t joined .shape;
+        meeting = child-at t joined .meeting;
       },
     )
 
-enter-returns-4 : (t : ℕ) → enter-lts.Need-returns-4 (enter-calls t) (enter-at t) enter.Post
-enter-returns-4 t c =
-    let three = c .before .before .before in
-    let read = three .before in
-    let linked = read .before .before in
-    let halved = linked .before in
-    let two = halved .before .before .before in
-    let asked = two .before in
-    let axed = asked .before .before in
-    let one = axed .before in
+enter-returns-5 : (t : ℕ) → enter-lts.Need-returns-5 (enter-calls t) (enter-at t) enter.Post
+enter-returns-5 t c =
+    let five = c .before .before .before in
+    let tested = five .before in
+    let four = tested .before .before in
+    let read = four .before in
+    let joined = read .before .before .before in
+    let one = joined .before in
     let start = one .before .before in
     let a = start .args in
     let p = start .pre .1 in
-    let axis = axed .axis-of .ensures in
-    let child =
-    child-half (a .range .now) (a .below) (a .side) (a .t6) (axis .0) (axis .1) (asked .half-meets .ensures) (not-false _ (two .if2 .left)) (p .shape)
-    (ap (set (a .t6) (axed .axis-of .result)) (halved .half-of .ensures)) in
+    let named = tested .wide2 .ensures .0 ∙ tested .before .field .ensures in
     child-visited (a .pool .now) (a .cells) (a .range .now) _ (a .below) (a .parent) (a .side) (a .t6) (p .ready .counted) (p .leads) (one .if1 .left)
-    (linked .link-place .ensures .0) (read .wide .ensures .0) child
-    (three .if3 .left) (c .visit .ensures)
+    (child-at t joined) (read .wide .ensures .0) (four .if4 .left)
+    (sym named ∙ five .if5 .left) (c .visit .ensures)
 
 visit-sub-level : (t : ℕ) → visit-lts.Need-sub-level (visit-calls t) (visit-at t) visit.Post
 visit-sub-level t c = search needs
@@ -229,10 +274,9 @@ entering s v counted leads =
     let before = v .testing in
     record {
       ready = record { few = before .ready .few; long = before .ready .long; counted = counted };
-      some = before .some;
-      in-cells = before .in-cells;
-      leads = leads;
-      in-levels = v .in-levels;
+      cell = λ few. (before .some, before .in-cells);
+      leads = rw (le-leb _ levels (v .in-levels)) leads;
+      in-levels = omega (arith, v .in-levels);
       one-sided = before .one-sided;
       shape = v .shape;
       meeting = v .meeting;
@@ -245,18 +289,24 @@ left-subtree : (t : ℕ) (c : visit-lts.Joined2 (visit-calls t) (visit-at t) vis
     let exit = tested .test .last .1 .1 .1 .1 .1 .1 .1 in
     let test = testOf (predicateIn (a .predicate .now)) (a .range .now) in
     Encodes (a .cells) true (c .if2 .hits) (c .if2 .counters)
-    (entered (a .pool .now) (a .cells) (a .range .now) test (exit .0) (exit .1 .0) (a .below) (a .k) Left (a .region))
+    (subtree (a .pool .now) (a .cells) (a .range .now) test (a .below) (a .k) Left (a .region) (exit .0) (exit .1 .0))
 unfolding fieldOf
 left-subtree t c =
     let read = c .before in
     let tested = read .before .before in
-    let a = tested .before .before .before .before .args in
+    let start = tested .before .before .before .before in
+    let a = start .args in
+    let p = start .pre .1 in
+    let exit = tested .test .last .1 .1 .1 .1 .1 .1 .1 in
     ⊎-elim
-    (λ w. encodes-as (w .3 .ensures) (not-false _ (w .4 .left)) (w .5) (w .6))
     (λ w.
     encodes-as
-    (child-blank (a .pool .now) (a .cells) (a .range .now) _ (a .below) (a .k) Left (a .region) (tested .test .ensures .counted)
-    (sym (read .field .ensures) ∙ w .0 .left)) refl (w .1) (w .2))
+    (subtree-entered (a .pool .now) (a .cells) (a .range .now) _ (a .below) (a .k) Left (a .region) (exit .0) (exit .1 .0) (p .in-levels) (w .3 .ensures))
+    (not-false _ (w .4 .left)) (w .5) (w .6))
+    (λ w.
+    encodes-as
+    (subtree-blank (a .pool .now) (a .cells) (a .range .now) _ (a .below) (a .k) Left (a .region) (exit .0) (exit .1 .0)
+    (sym (read .field .ensures) ∙ w .0 .left) (tested .test .ensures .counted)) refl (w .1) (w .2))
     (c .if2 .came)
 
 visit-field-requires : (t : ℕ) → visit-lts.Need-field-requires (visit-calls t) (visit-at t) visit.Post
@@ -277,9 +327,13 @@ visit-returns-2 t c =
     let read = left .before .before .before .before in
     let one = read .before in
     let tested = one .before in
-    let a = tested .before .before .before .before .args in
+    let start = tested .before .before .before .before in
+    let a = start .args in
+    let exit = tested .test .last .1 .1 .1 .1 .1 .1 .1 in
     visit-left-cut (a .pool .now) (a .cells) (a .range .now) _ (a .below) (a .link) (a .k) (a .region) (a .hits .now) (a .counters .now)
-    (tested .test .ensures) (not-false _ (one .if1 .left)) (left .enter .ensures) (not-true _ (c .if3 .taken))
+    (tested .test .ensures) (not-false _ (one .if1 .left))
+    (subtree-entered (a .pool .now) (a .cells) (a .range .now) _ (a .below) (a .k) Left (a .region) (exit .0) (exit .1 .0) (start .pre .1 .in-levels)
+    (left .enter .ensures)) (not-true _ (c .if3 .taken))
 
 visit-field-requires-2 : (t : ℕ) → visit-lts.Need-field-requires-2 (visit-calls t) (visit-at t) visit.Post
 visit-field-requires-2 t c κs = search needs
@@ -294,8 +348,8 @@ visit-returns-3 t c =
     let a = tested .before .before .before .before .args in
     visit-whole (a .pool .now) (a .cells) (a .range .now) _ (a .below) (a .link) (a .k) (a .region) (a .hits .now) (a .counters .now)
     (tested .test .ensures) (not-false _ (one .if1 .left)) (left-subtree t joined) refl
-    (child-blank (a .pool .now) (a .cells) (a .range .now) _ (a .below) (a .k) Right (a .region) (left-subtree t joined .counted)
-    (sym (read .field2 .ensures) ∙ c .if4 .taken))
+    (subtree-blank (a .pool .now) (a .cells) (a .range .now) _ (a .below) (a .k) Right (a .region) (joined .if2 .hits) (joined .if2 .counters)
+    (sym (read .field2 .ensures) ∙ c .if4 .taken) (left-subtree t joined .counted))
 
 visit-enter-requires-2 : (t : ℕ) → visit-lts.Need-enter-requires-2 (visit-calls t) (visit-at t) visit.Post
 unfolding fieldOf
@@ -314,16 +368,18 @@ visit-returns-4 t c =
     let joined = read .before in
     let one = joined .before .before in
     let tested = one .before in
-    let a = tested .before .before .before .before .args in
+    let start = tested .before .before .before .before in
+    let a = start .args in
     visit-whole (a .pool .now) (a .cells) (a .range .now) _ (a .below) (a .link) (a .k) (a .region) (a .hits .now) (a .counters .now)
-    (tested .test .ensures) (not-false _ (one .if1 .left)) (left-subtree t joined) refl (c .enter2 .ensures)
+    (tested .test .ensures) (not-false _ (one .if1 .left)) (left-subtree t joined) refl
+    (subtree-entered (a .pool .now) (a .cells) (a .range .now) _ (a .below) (a .k) Right (a .region) (joined .if2 .hits) (joined .if2 .counters)
+    (start .pre .1 .in-levels) (c .enter2 .ensures))
 
 pub +enter+visit-spec : {M : Type 1} → statement M
 +enter+visit-spec = close μ-enter μ-visit (λ t. enter-lts.spec (enter-calls t)
     (enter-at t)
     enter.Post
     (enter-returns t)
-    (enter-sub-axis-of t)
     (enter-axis-of-requires t)
     (enter-half-meets-requires t)
     (enter-returns-2 t)
@@ -341,9 +397,12 @@ pub +enter+visit-spec : {M : Type 1} → statement M
     (enter-shared-slice-read-wide t)
     (enter-wide-requires t)
     (enter-returns-3 t)
+    (enter-field-requires t)
+    (enter-wide-requires-2 t)
+    (enter-returns-4 t)
     (enter-sub-visit t)
     (enter-visit-requires t)
-    (enter-returns-4 t))
+    (enter-returns-5 t))
     λ t. visit-lts.spec (visit-calls t)
     (visit-at t)
     visit.Post

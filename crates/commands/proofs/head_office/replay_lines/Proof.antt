@@ -14,9 +14,6 @@ Inv-loop fd path pool₀ input₀ line₀ cursor₀ number₀ pool input line cu
 abbrev μ-loop : tie.MeasureT-loop
 μ-loop fd path pool₀ input₀ line₀ cursor₀ number₀ pool input line cursor number = 18446744073709551615 - number
 
-fresh-requires : tie.Need-fresh-requires Inv-loop μ-loop
-fresh-requires c κs = search needs
-
 loop-holds : tie.Need-loop-holds Inv-loop μ-loop
 loop-holds c = search needs
 
@@ -108,7 +105,6 @@ replay-lines-spec =
     (tie.spec
     Inv-loop
     μ-loop
-    fresh-requires
     loop-holds
     next-line-requires
     enum-known-got

@@ -55,7 +55,7 @@ returns-2 c =
     let a = start .args in
     let r = request (a .number) (a .rank) (a .kind) (a .bounds) in
     let at = subst (GrantPlanned (a .pool .now) r) (told .plan2 .given .1) (planned .plan-insertion .ensures) in
-    grant-done (a .pool .now) r _ _ _ _ at (stored .insert .ensures ∙ ap (inserted _ _) (asked .requested .ensures))
+    grant-done (a .pool .now) r _ _ _ _ at (stored .insert .ensures ∙ ap (inserted _ _ _) (asked .requested .ensures))
 
 pub grant-spec : {M : Type 1} → statement M
 grant-spec =

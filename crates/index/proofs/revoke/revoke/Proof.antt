@@ -20,7 +20,7 @@ remove-requires c κs =
     let planned = c .before .before .before .before in
     let a = planned .before .before .before .args in
     let at = subst (RemovalPlanned (a .pool .now) (a .number)) (c .before .before .removal2 .given .1) (planned .plan-removal .ensures) in
-    plan-removes (a .pool .now) _ _ _ _ _ at
+    plan-removes (a .pool .now) _ _ _ _ _ _ at
 
 same-length : tie.Need-same-length
 same-length c = search needs
@@ -41,7 +41,7 @@ returns-2 c =
     let planned = told .before .before in
     let a = planned .before .before .before .args in
     let at = subst (RemovalPlanned (a .pool .now) (a .number)) (told .removal2 .given .1) (planned .plan-removal .ensures) in
-    revoke-done (a .pool .now) _ _ _ _ _ at (c .before .before .remove .ensures)
+    revoke-done (a .pool .now) _ _ _ _ _ _ at (c .before .before .remove .ensures)
 
 pub revoke-spec : {M : Type 1} → statement M
 revoke-spec =

@@ -1,4 +1,4 @@
--- `cell::store_grant` meets its contract: its ten words are those of `cellOf`. Assumes nothing.
+-- `cell::store_grant` meets its contract: its words are those of `cellOf`. Assumes nothing.
 use borrow.Author.Needs.{needs}
 use Rattle.pool.proofs.cell.store_grant.Statement.{statement}
 use Rattle.pool.proofs.cell.store_grant.Tie as tie

@@ -58,7 +58,7 @@ returns-2 c =
     let a = kinded .before .before .before .args in
     let same = same-request (a .g) (kinded .kind-number .ensures .0) in
     added-done (a .pool .now) (requestOf (a .g)) _ _ _ _ (planned-as (a .pool .now) same (told .plan .given .1) (planned .plan-slot .ensures))
-    (stored .insert .ensures ∙ ap (inserted (a .pool .now) _) (sym (requested-requestOf (a .g))))
+    (stored .insert .ensures ∙ ap (inserted (a .pool .now) _ _) (sym (requested-requestOf (a .g))))
 
 pub add-spec : {M : Type 1} → statement M
 add-spec =

@@ -1,0 +1,3 @@
+-- Laws of the way up.
+pub mod AncestorSteps
+pub mod AncestorLaws

@@ -1,0 +1,73 @@
+// The cells from a grant's own up to the root, by the parents that they name, one at a time (specs/GrantPath). Refuses by 1, 3, 9 and 7, in
+// this order, as revoke does; the pool stays as it is. Searches afresh for each, so that nothing is kept between two rows.
+ghost use mathlib.Core.Path.{_≡_};
+ghost use Rattle.grant_path.specs.GrantPath.{ParentWalk, ancestorFrom, ancestorAt};
+use index::find::NumberHit;
+use index::find::find_number;
+use model::Fault;
+use model::Grant;
+use pool::Field;
+use pool::cell::grant_at;
+use pool::layout::capacity;
+use pool::layout::field;
+use pool::layout::wide;
+
+// A cell on the way up, its level, 0 for the root's, and the grant in it; or that the way has ended.
+pub enum Ancestor {
+    Is { cell: u16, level: u16, grant: Grant },
+    End,
+    Refused(Fault),
+}
+
+// The cell so many steps above a cell, in a pool of so many cells. A parent that is no cell of the pool can't be where a search came to its end.
+fn ancestor_from(pool: &[u16], cells: usize, cell: usize, level: usize, steps: usize) -> Ancestor
+    requires { ⌜ ParentWalk (now pool) cells cell level ⌝ }
+    ensures { λ r. ⌜ r ≡ ancestorFrom (now (pool .entry)) cell level steps ⌝ }
+{
+    let mut at = cell;
+    let mut above = level;
+    let mut left = steps;
+    while 0 < left {
+        if above == 0 {
+            return Ancestor::End;
+        }
+        let parent = wide(field(pool, at, Field::Parent));
+        if parent == 0 {
+            return Ancestor::Refused(Fault::BrokenLinks);
+        }
+        if cells < parent {
+            return Ancestor::Refused(Fault::BrokenLinks);
+        }
+        at = parent;
+        above -= 1;
+        left -= 1;
+    }
+    Ancestor::Is {
+        cell: at as u16,
+        level: above as u16,
+        grant: grant_at(pool, at),
+    }
+}
+
+// The cell i steps above that of the grant of this number, which is its own at 0; End past the root.
+pub fn ancestor_at(pool: &[u16], number: u16, i: usize) -> Ancestor
+    ensures { λ r. ⌜ r ≡ ancestorAt (now (pool .entry)) number i ⌝ }
+{
+    let cells = capacity(pool);
+    if cells == 0 {
+        return Ancestor::Refused(Fault::BadPool);
+    }
+    if number == 0 {
+        return Ancestor::Refused(Fault::ZeroNumber);
+    }
+    let hit = find_number(pool, cells, number);
+    match hit {
+        NumberHit::Broken => Ancestor::Refused(Fault::BrokenLinks),
+        NumberHit::Absent => Ancestor::Refused(Fault::NotLive),
+        NumberHit::At {
+            cell,
+            level,
+            link: _,
+        } => ancestor_from(pool, cells, cell, level, i),
+    }
+}
