@@ -1,1 +1,1 @@
--- TODO commands proofs
+-- No laws that another crate cites: the proofs of the commands' functions stand beside this file.
