@@ -28,6 +28,6 @@ module _ {w v : List ℕ} {c : ℕ} {t : Tree} {k : ℕ} {ks : List ℕ} {g : Gr
   pub carries-inserted-other : (j : ℕ) (f : Grant) → List·Memᴰ j (cellsOf t) → Carries w j f → Carries v j f
   carries-inserted-other j f m = carries-same w v j f (i .other-words j m)
 
-module _ {w v : List ℕ} {c : ℕ} {t : Tree} {k : ℕ} {ks : List ℕ} (h : Linked w c t ks) (r : Removed w v c t k ks) where
+module _ {w v : List ℕ} {c : ℕ} {t : Tree} {k : ℕ} {ks : List ℕ} (r : Removed w v c t k ks) where
   pub carries-removed : (j : ℕ) (f : Grant) → List·Memᴰ j (cellsOf (r .tree)) → Carries w j f → Carries v j f
   carries-removed j f m = carries-same w v j f (r .other-words j m)

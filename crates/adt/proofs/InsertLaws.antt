@@ -35,7 +35,7 @@ use Rattle.pool.specs.Layout.{capacityPlace, rootPlace, freePlace, offset, plac
 use Rattle.pool.specs.Capacity.{poolLength, capacityOf}
 use Rattle.pool.specs.Cell.{grantAt, cellOf, withCell}
 use Rattle.pool.proofs.LayoutLaws.{field-set-header}
-use Rattle.pool.proofs.CellLaws.{grant-past, SameGrantWords, length-withCell, field-withCell-same, field-withCell-other}
+use Rattle.pool.proofs.CellLaws.{grant-between, SameGrantWords, length-withCell, field-withCell-same, field-withCell-other}
 use Rattle.pool.proofs.CellLaws.{header-withCell, grantAt-same, grantAt-withCell-same}
 use Rattle.pool.proofs.FreeCellLaws.{Cleared, cleared-same}
 use Rattle.adt.specs.Node.{linkField, linkPlace, parentAt, isParent}
@@ -171,13 +171,13 @@ module _ (w : List ℕ) (parent : ℕ) (g : Grant) {c at : ℕ} (hook : Hook c a
   unfolding inserted
   inserted-words f h =
       field-set-header (added w at parent g) freePlace (freeHead w) f (nextFree w) (omega arith)
-      ∙ field-set-hook (stored w parent g) (freeHead w) (freeHead w) f hook (grant-past f h)
+      ∙ field-set-hook (stored w parent g) (freeHead w) (freeHead w) f hook (grant-between f h .past)
 
   pub inserted-grant : GrantFits g → grantAt (inserted w at parent g) (freeHead w) ≡ g
   inserted-grant fits = grantAt-same (stored w parent g) (inserted w at parent g) (freeHead w) inserted-words ∙ grantAt-withCell-same w c (freeHead w) 0 0 g parent pos le long fits
 
   pub inserted-kept : (k : ℕ) → 0 < k → ¬ (k ≡ freeHead w) → SameGrantWords w (inserted w at parent g) k
-  inserted-kept k hk n f h = inserted-field k f hk n (hook-past k f hook (grant-past f h))
+  inserted-kept k hk n f h = inserted-field k f hk n (hook-past k f hook (grant-between f h .past))
 
 -- the first free cell
 pub record FirstFree (w : List ℕ) (c j k : ℕ) (ks : List ℕ) : Type 0 where

@@ -28,6 +28,7 @@ pub mod Linked
 pub mod InsertLaws
 pub mod ChainLaws
 pub mod FollowLaws
+pub mod ReplaceLaws
 pub mod UnlinkLaws
 pub mod RemoveLaws
 pub mod LiveLaws

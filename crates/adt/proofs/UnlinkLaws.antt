@@ -23,17 +23,18 @@ use Rattle.pool.specs.declared.Field.{Field}
 use Rattle.pool.specs.declared.Field.the-variants as field
 use Rattle.pool.specs.Layout.{rootPlace, headerWords, offset, place, fieldOf}
 use Rattle.pool.specs.Capacity.{poolLength}
-use Rattle.pool.proofs.CellLaws.{grant-past, grant-before, SameGrantWords, grantAt-same}
+use Rattle.pool.proofs.CellLaws.{grant-between, SameGrantWords, grantAt-same}
 use Rattle.adt.specs.Node.{linkField, linkPlace, parentAt}
 use Rattle.adt.specs.Remove.{replaced, raised, unlinked}
 use Rattle.adt.proofs.Spells.{Tree, blank, node, cellsOf, Spells, spells-blank}
 use Rattle.adt.proofs.TreeLaws.{child, cells-upto, cells-inside}
 use Rattle.adt.proofs.PartLaws.{Part, part-here, part-child}
-use Rattle.adt.proofs.NodeLaws.{sides-apart, Away, root-away, other-away, link-away, Hook, hook-link, hook-within, hook-header, hook-away, field-set-hook}
+use Rattle.adt.proofs.NodeLaws.{Away, root-away, other-away, link-away, Hook, hook-within, hook-away}
 use Rattle.adt.proofs.FrameLaws.{SameNode, spells-frame, inside-same}
 use Rattle.adt.proofs.Parents.{Parented, parented-blank, parented-first, parented-child, firstCell, spells-first, first-mem, apart-first, parented-under}
 use Rattle.adt.proofs.ParentParts.{parented-withSon, unchanged-parented}
 use Rattle.adt.proofs.DescentSteps.{length-raised}
+use Rattle.adt.proofs.ReplaceLaws.{words-set, header-set, cutOff, replaced-long, replaced-past, replaced-words, replaced-header, replaced-here, replaced-leaf, replaced-other}
 use Rattle.adt.proofs.RaiseLaws.{no-parent, header-no-parent, hook-no-parent, raised-place, raised-other, raised-leaf, raised-child}
 use Rattle.adt.proofs.ExchangeLaws.{other, other-other, by-side, withSon, withSon-cells, spells-withSon, exchanged, outside, exchanged-cells}
 use Rattle.adt.proofs.ExchangeLaws.{part-child-link, spells-parts, part-outside, part-hook, Kept, exchanged-spells}
@@ -48,13 +49,6 @@ pub record Unlinked (w x : List ℕ) (c n at : ℕ) (g : Region) (p k : ℕ) (js
   pub header : (i : ℕ) → i < headerWords → i ≢ rootPlace → getD x i 0 ≡ getD w i 0
   pub root : rootPlace ≢ at → getD x rootPlace 0 ≡ getD w rootPlace 0
   pub others : (j : ℕ) (f : Field) → 0 < j → ¬ List·Memᴰ j js → place j f ≢ at → fieldOf x j f ≡ fieldOf w j f
-
--- a store at a place where a cell may hang leaves the grants' words and the header but the root
-words-set : {c at : ℕ} (w : List ℕ) (v : ℕ) → Hook c at → (j : ℕ) → SameGrantWords w (set w at v) j
-words-set w v hook j f h = field-set-hook w j v f hook (grant-past f h)
-
-header-set : {c at : ℕ} (w : List ℕ) (v : ℕ) → Hook c at → (i : ℕ) → i < headerWords → i ≢ rootPlace → getD (set w at v) i 0 ≡ getD w i 0
-header-set {at = at} w v hook i h n = getD-set-other w at i v 0 (hook-header i hook h n)
 
 -- the cell k with no children, at the place `at`
 pub unlinked-leaf : {w : List ℕ} {c at : ℕ} (n p k : ℕ) (g : Region) → length w ≡ poolLength c → Hook c at
@@ -76,75 +70,6 @@ unlinked-leaf {w} {c} {at} n p k g long hook = record {
 link-before : (z : Side) → offset (linkField z) < offset field.Parent
 link-before Left = omega arith
 link-before Right = omega arith
-
--- the words with the terminal cell cut from its parent, and then with the links of k in it
-abbrev cutOff : List ℕ → ℕ → List ℕ
-cutOff w leafAt = set w leafAt 0
-
-abbrev leftMoved : List ℕ → ℕ → ℕ → ℕ → List ℕ
-leftMoved w k leaf leafAt = set (cutOff w leafAt) (linkPlace leaf Left) (getD (cutOff w leafAt) (linkPlace k Left) 0)
-
-abbrev bothMoved : List ℕ → ℕ → ℕ → ℕ → List ℕ
-bothMoved w k leaf leafAt = set (leftMoved w k leaf leafAt) (linkPlace leaf Right) (getD (cutOff w leafAt) (linkPlace k Right) 0)
-
--- reads of the words with a terminal cell in the place of the cell k
-module _ (w : List ℕ) (k : ℕ) {c at leaf leafAt : ℕ} (long : length w ≡ poolLength c) (hook : Hook c at) (leafHook : Hook c leafAt) (pos : 0 < leaf)
-    (le : leaf ≤ c) where
-  replaced-long : length (replaced w k at leaf leafAt) ≡ length w
-  unfolding replaced
-  replaced-long =
-      length-set (bothMoved w k leaf leafAt) at leaf
-      ∙ length-set (leftMoved w k leaf leafAt) (linkPlace leaf Right) _
-      ∙ length-set (cutOff w leafAt) (linkPlace leaf Left) _
-      ∙ length-set w leafAt 0
-
-  -- no field behind the links
-  replaced-past : (j : ℕ) (f : Field) → offset field.Right < offset f → fieldOf (replaced w k at leaf leafAt) j f ≡ fieldOf w j f
-  unfolding replaced
-  replaced-past j f h =
-      field-set-hook (bothMoved w k leaf leafAt) j leaf f hook h
-      ∙ field-set-hook {c = c} (leftMoved w k leaf leafAt) j _ f (hook-link Right pos le) h
-      ∙ field-set-hook {c = c} (cutOff w leafAt) j _ f (hook-link Left pos le) h
-      ∙ field-set-hook w j 0 f leafHook h
-
-  replaced-words : (j : ℕ) → SameGrantWords w (replaced w k at leaf leafAt) j
-  replaced-words j f h = replaced-past j f (grant-past f h)
-
-  replaced-header : (i : ℕ) → i < headerWords → i ≢ rootPlace → getD (replaced w k at leaf leafAt) i 0 ≡ getD w i 0
-  unfolding replaced
-  replaced-header i h n =
-      header-set (bothMoved w k leaf leafAt) leaf hook i h n
-      ∙ header-set (leftMoved w k leaf leafAt) _ (hook-link Right pos le) i h n
-      ∙ header-set (cutOff w leafAt) _ (hook-link Left pos le) i h n
-      ∙ header-set w 0 leafHook i h n
-
-  replaced-here : getD (replaced w k at leaf leafAt) at 0 ≡ leaf
-  unfolding replaced
-  replaced-here =
-      let e = length-set (leftMoved w k leaf leafAt) (linkPlace leaf Right) (getD (cutOff w leafAt) (linkPlace k Right) 0) in
-      let f = length-set (cutOff w leafAt) (linkPlace leaf Left) (getD (cutOff w leafAt) (linkPlace k Left) 0) in
-      getD-set-same (bothMoved w k leaf leafAt) at leaf 0 (omega (arith, hook-within hook, e, f, length-set w leafAt 0))
-
-  -- the terminal cell has the links of k
-  replaced-leaf : Away at leaf → (s : Side) → getD (replaced w k at leaf leafAt) (linkPlace leaf s) 0 ≡ getD (cutOff w leafAt) (linkPlace k s) 0
-  unfolding replaced
-  replaced-leaf away Left =
-      getD-set-other (bothMoved w k leaf leafAt) at (linkPlace leaf Left) leaf 0 (away Left)
-      ∙ getD-set-other (leftMoved w k leaf leafAt) (linkPlace leaf Right) (linkPlace leaf Left) _ 0 (sides-apart leaf)
-      ∙ getD-set-same (cutOff w leafAt) (linkPlace leaf Left) _ 0 (omega (arith, hook-within {c = c} (hook-link Left pos le), length-set w leafAt 0))
-  replaced-leaf away Right =
-      let f = length-set (cutOff w leafAt) (linkPlace leaf Left) (getD (cutOff w leafAt) (linkPlace k Left) 0) in
-      getD-set-other (bothMoved w k leaf leafAt) at (linkPlace leaf Right) leaf 0 (away Right)
-      ∙ getD-set-same (leftMoved w k leaf leafAt) (linkPlace leaf Right) _ 0
-      (omega (arith, hook-within {c = c} (hook-link Right pos le), f, length-set w leafAt 0))
-
-  -- no other place is stored
-  replaced-other : (link : ℕ) → link ≢ at → Away link leaf → getD (replaced w k at leaf leafAt) link 0 ≡ getD (cutOff w leafAt) link 0
-  unfolding replaced
-  replaced-other link n away =
-      getD-set-other (bothMoved w k leaf leafAt) at link leaf 0 n
-      ∙ getD-set-other (leftMoved w k leaf leafAt) (linkPlace leaf Right) link _ 0 (λ e. away Right (sym e))
-      ∙ getD-set-other (cutOff w leafAt) (linkPlace leaf Left) link _ 0 (λ e. away Left (sym e))
 
 -- the cell k with the children l and r, and the terminal cell below its child on the side s
 module _ {w : List ℕ} {c n at m leafAt p : ℕ} {g : Region} {leaf : ℕ} (s : Side) (k : ℕ) (l r : Tree)
@@ -354,7 +279,7 @@ module _ {w : List ℕ} {c n at m leafAt p : ℕ} {g : Region} {leaf : ℕ} (s :
   -- raising changes no link and no grant
   raised-words : (j : ℕ) → SameGrantWords moved risen j
   unfolding fieldOf
-  raised-words j f h = raised-place moved k leaf (place j f) (no-parent j f (grant-before f h))
+  raised-words j f h = raised-place moved k leaf (place j f) (no-parent j f (grant-between f h .before))
 
   raised-same : (j : ℕ) → SameNode moved risen j
   raised-same j = record {

@@ -52,7 +52,7 @@ module _ {w v : List ℕ} {b : Book} {k : ℕ} (h : Represents w b) (done : Remo
   left-carried j m =
       let old = h .carried j (perm-mem (done .cells) (List·Memᴰ·tail m)) in
       subst (Carried v j) (sym (done .others j m))
-      (record { fits = old .fits; faultless = old .faultless; words = carries-removed (h .linked) done j (grantAt w j) m (old .words) })
+      (record { fits = old .fits; faultless = old .faultless; words = carries-removed done j (grantAt w j) m (old .words) })
 
   pub remove-represents : Represents v (withLive b (filter (λ g. not (eqb (g .number) (grantAt w k .number))) (b .live)))
   remove-represents = record {

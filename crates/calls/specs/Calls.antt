@@ -64,6 +64,10 @@ revokedWords w k at (remove.terminal leaf leafAt) = removed w k at leaf leafAt
 abbrev pub revokeLine : List ℕ → ℕ → List Cause
 revokeLine w n = revokeOrder w n (revokeBroken w n) (hitsOf (numberSearch w n))
 
+-- the same with the number's search alone: what is refused of a number that is to be live
+abbrev pub liveLine : List ℕ → ℕ → List Cause
+liveLine w n = let s = numberSearch w n in revokeOrder w n (isBroken s) (hitsOf s)
+
 unfoldable pub revokeCall : List ℕ → ℕ → Step (List ℕ)
 revokeCall w n =
     let s = numberSearch w n in

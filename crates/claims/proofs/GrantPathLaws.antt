@@ -27,19 +27,20 @@ use Rattle.adt.proofs.ReachLaws.{linked-reached}
 use Rattle.adt.proofs.PathLaws.{hangs-path, path-drop}
 use Rattle.calls.specs.Walks.{numberSearch, firstHit, firstSpotOf}
 use Rattle.calls.specs.Order.{revokeOrder}
+use Rattle.calls.specs.Calls.{liveLine}
 use Rattle.calls.proofs.Represents.{Represents, represents-pool, live-represents, live-faultless}
 use Rattle.calls.proofs.HoldsLaws.{carried-cell, represents-holds}
 use Rattle.calls.proofs.LiveNumberLaws.{number-found, numberLive-isLive}
 use Rattle.calls.proofs.RevokeLaws.{causes, first-found}
 use Rattle.grant_path.specs.declared.ancestors.Ancestor.{Ancestor}
 use Rattle.grant_path.specs.declared.ancestors.Ancestor.the-variants.{Is, Refused}
-use Rattle.grant_path.specs.GrantPath.{pathOrder, ancestorFrom, ancestorAt}
+use Rattle.grant_path.specs.GrantPath.{ancestorFrom, ancestorAt}
 use Rattle.grant_path.proofs.AncestorLaws.{ancestor-on, ancestor-past}
 use Rattle.claims.specs.GrantPaths.{ShowsCell, ShowsPath, ShowsPaths, PathClaim}
 use Rattle.claims.proofs.MadeLaws.{made-represents}
 
 module _ {w : List ℕ} {b : Book} (h : Represents w b) where
-  pub path-order : (n : ℕ) → firstFault (pathOrder w n) ≡ firstFault (causes h n)
+  pub path-order : (n : ℕ) → firstFault (liveLine w n) ≡ firstFault (causes h n)
   unfolding revokeOrder firstFault
   path-order n = rw (represents-pool h, number-found h n .whole, numberLive-isLive h n)
 

@@ -2,26 +2,23 @@
 --   ancestor-here, ancestor-end            no step is left; the way has ended at the root
 --   ancestor-blank, ancestor-outside       the parent that the cell names is none, or no cell of the pool
 --   ancestor-up, ancestor-parent           else the way goes on from it
---   path-bad, path-zero, path-broken, path-absent   the refusals, in their order
+--   path-refused                           a number that isn't live
 --   path-starts, path-done                 the way up may start at the number's first hit, and is then the answer
 -- Assumes nothing.
 use Prim.Native.Nat.{ℕ, zero, suc, _-_, _<_, _≤_}
 use mathlib.Core.Path.{_≡_, refl, sym, _∙_}
-use mathlib.Core.Bool.{true, false}
 use mathlib.Core.List.{List}
 use native.Mathlib.Omega.{arith}
-use lib.Dec.{eqb·suc-zero}
 use lib.ListN.{length}
 use borrow.Author.Tests.{eq-eqb, ne-eqb, lt-ltb, le-ltb}
-use Rattle.model.specs.declared.Fault.the-variants.{BadPool, ZeroNumber, NotLive, BrokenLinks}
-use Rattle.model.specs.Refusal.{firstFault}
-use Rattle.pool.specs.Capacity.{poolLength, Sized, wrongPool}
+use Rattle.model.specs.declared.Fault.{Fault}
+use Rattle.model.specs.declared.Fault.the-variants.{BrokenLinks}
+use Rattle.pool.specs.Capacity.{poolLength}
 use Rattle.pool.specs.Cell.{grantAt}
 use Rattle.pool.proofs.CapacityLaws.{capacityOf-poolLength}
 use Rattle.adt.specs.Node.{parentAt}
-use Rattle.calls.specs.Order.{revokeOrder}
-use Rattle.index.specs.declared.find.NumberHit.the-variants as hit
-use Rattle.index.specs.NumberSearch.{NumberFound}
+use Rattle.index.specs.declared.find.LiveHit.the-variants as live
+use Rattle.index.specs.NumberSearch.{LiveFound}
 use Rattle.grant_path.specs.declared.ancestors.Ancestor.{Ancestor}
 use Rattle.grant_path.specs.declared.ancestors.Ancestor.the-variants.{Is, End, Refused}
 use Rattle.grant_path.specs.GrantPath.{ancestorFrom, ancestorAt, ParentWalk}
@@ -64,37 +61,23 @@ module _ (w : List ℕ) (c : ℕ) (long : length w ≡ poolLength c) (k : ℕ) {
         let left : suc i - 1 ≡ i = omega arith in
         rw (level, left) (sym (ancestor-up l i))
 
--- the line of faults, as far as its tests have come
+-- the number's line of faults, and the way up from its first hit
 module _ (w : List ℕ) (n i : ℕ) where
-  pub path-bad : wrongPool w ≡ true → Refused BadPool ≡ ancestorAt w n i
-  unfolding ancestorAt revokeOrder firstFault
-  path-bad e = rw e
+  pub path-refused : (f : Fault) → LiveFound w n (live.Refused f) → Refused f ≡ ancestorAt w n i
+  unfolding ancestorAt LiveFound
+  path-refused f e = rw e
 
-  module _ (taken : wrongPool w ≡ false) where
-    pub path-zero : n ≡ 0 → Refused ZeroNumber ≡ ancestorAt w n i
-    unfolding ancestorAt revokeOrder firstFault
-    path-zero z = rw (taken, eq-eqb n 0 z)
+  module _ (c cell level link : ℕ) (f : LiveFound w n (live.At c cell level link)) where
+    pub path-starts : ParentWalk w c cell level
+    unfolding LiveFound
+    path-starts =
+        record {
+          sized = f .sized;
+          some = f .first .some;
+          few = omega (arith, f .first .few, capacityOf-poolLength w c (f .sized .long));
+          deep = f .first .deep;
+        }
 
-    module _ (some : ¬ (n ≡ 0)) where
-      pub path-broken : NumberFound w n hit.Broken → Refused BrokenLinks ≡ ancestorAt w n i
-      unfolding ancestorAt revokeOrder firstFault NumberFound
-      path-broken f = rw (taken, ne-eqb n 0 some, f)
-
-      pub path-absent : NumberFound w n hit.Absent → Refused NotLive ≡ ancestorAt w n i
-      unfolding ancestorAt revokeOrder firstFault NumberFound
-      path-absent f = rw (taken, ne-eqb n 0 some, f .unbroken, f .none)
-
-      module _ (cell level link : ℕ) (f : NumberFound w n (hit.At cell level link)) where
-        pub path-starts : {c : ℕ} → Sized w c → ParentWalk w c cell level
-        unfolding NumberFound
-        path-starts {c} sized =
-            record {
-              sized = sized;
-              some = f .some;
-              few = omega (arith, f .few, capacityOf-poolLength w c (sized .long));
-              deep = f .deep;
-            }
-
-        pub path-done : {a : Ancestor} → a ≡ ancestorFrom w cell level i → a ≡ ancestorAt w n i
-        unfolding ancestorAt revokeOrder firstFault NumberFound
-        path-done e = e ∙ rw (taken, ne-eqb n 0 some, f .found, eqb·suc-zero (length (f .others)))
+    pub path-done : {a : Ancestor} → a ≡ ancestorFrom w cell level i → a ≡ ancestorAt w n i
+    unfolding ancestorAt LiveFound
+    path-done e = e ∙ rw (f .passes, f .first .found)

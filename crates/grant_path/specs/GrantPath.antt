@@ -1,7 +1,7 @@
 -- The way from a grant's cell up to the root, by the parents that the cells name (document 02, card 6), asked for a cell at a time.
---   pathOrder w n              the faults and their order: revoke's line (calls/specs/Order), with the number's search alone
 --   ancestorFrom w k l i       the cell i steps above the cell k, which is at level l: with its level and the grant in it; End past level 0
---   ancestorAt w n i           the first fault of that line that holds, else this from the first hit of the number's search, at its own level
+--   ancestorAt w n i           what is refused of a number that is to be live (calls/specs/Calls `liveLine`), else this from the first hit of the
+--                              number's search, at its own level
 --   ParentWalk w c k l         what the code's way up goes by: a cell of a pool of c cells, and its level
 -- What they are in an index that calls made is said in claims/specs/GrantPaths. Assumes nothing: these are definitions.
 use Prim.Native.Nat.{ℕ, zero, suc, _<_, _≤_}
@@ -11,18 +11,15 @@ use mathlib.Core.Option.{Option, none, some}
 use lib.Dec.{ltb, eqb}
 use Rattle.model.specs.declared.Fault.{Fault}
 use Rattle.model.specs.declared.Fault.the-variants.{BrokenLinks}
-use Rattle.model.specs.Refusal.{Cause, firstFault}
+use Rattle.model.specs.Refusal.{firstFault}
 use Rattle.geometry.specs.Levels.{levels}
 use Rattle.pool.specs.Capacity.{Sized, capacityOf}
 use Rattle.pool.specs.Cell.{grantAt}
 use Rattle.adt.specs.Node.{parentAt}
-use Rattle.calls.specs.Walks.{numberSearch, isBroken, hitsOf, firstHit, firstSpotOf}
-use Rattle.calls.specs.Order.{revokeOrder}
+use Rattle.calls.specs.Walks.{numberSearch, firstHit, firstSpotOf}
+use Rattle.calls.specs.Calls.{liveLine}
 use Rattle.grant_path.specs.declared.ancestors.Ancestor.{Ancestor}
 use Rattle.grant_path.specs.declared.ancestors.Ancestor.the-variants.{Is, End, Refused}
-
-abbrev pub pathOrder : List ℕ → ℕ → List Cause
-pathOrder w n = let s = numberSearch w n in revokeOrder w n (isBroken s) (hitsOf s)
 
 -- a parent that is no cell of the pool is a cause of 9; no pool has one where the number's search came to its end
 unfoldable pub ancestorFrom : List ℕ → ℕ → ℕ → ℕ → Ancestor
@@ -40,7 +37,7 @@ unlessFault (some f) a = Refused f
 unfoldable pub ancestorAt : List ℕ → ℕ → ℕ → Ancestor
 ancestorAt w n i =
     let s = numberSearch w n in
-    unlessFault (firstFault (pathOrder w n)) (ancestorFrom w (firstHit s) (firstSpotOf s .level) i)
+    unlessFault (firstFault (liveLine w n)) (ancestorFrom w (firstHit s) (firstSpotOf s .level) i)
 
 pub record ParentWalk (w : List ℕ) (c k l : ℕ) : Type 0 where
   pub sized : Sized w c

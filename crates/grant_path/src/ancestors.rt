@@ -2,13 +2,12 @@
 // this order, as revoke does; the pool stays as it is. Searches afresh for each, so that nothing is kept between two rows.
 ghost use mathlib.Core.Path.{_≡_};
 ghost use Rattle.grant_path.specs.GrantPath.{ParentWalk, ancestorFrom, ancestorAt};
-use index::find::NumberHit;
-use index::find::find_number;
+use index::find::LiveHit;
+use index::find::find_live;
 use model::Fault;
 use model::Grant;
 use pool::Field;
 use pool::cell::grant_at;
-use pool::layout::capacity;
 use pool::layout::field;
 use pool::layout::wide;
 
@@ -53,18 +52,11 @@ fn ancestor_from(pool: &[u16], cells: usize, cell: usize, level: usize, steps: u
 pub fn ancestor_at(pool: &[u16], number: u16, i: usize) -> Ancestor
     ensures { λ r. ⌜ r ≡ ancestorAt (now (pool .entry)) number i ⌝ }
 {
-    let cells = capacity(pool);
-    if cells == 0 {
-        return Ancestor::Refused(Fault::BadPool);
-    }
-    if number == 0 {
-        return Ancestor::Refused(Fault::ZeroNumber);
-    }
-    let hit = find_number(pool, cells, number);
+    let hit = find_live(pool, number);
     match hit {
-        NumberHit::Broken => Ancestor::Refused(Fault::BrokenLinks),
-        NumberHit::Absent => Ancestor::Refused(Fault::NotLive),
-        NumberHit::At {
+        LiveHit::Refused(f) => Ancestor::Refused(f),
+        LiveHit::At {
+            cells,
             cell,
             level,
             link: _,

@@ -1,3 +1,4 @@
 -- Laws of the calls, for the crates above.
 pub mod FindLaws
+pub mod LiveLineLaws
 pub mod PlanLaws

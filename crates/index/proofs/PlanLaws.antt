@@ -1,21 +1,20 @@
 -- How grant, revoke and start come to their answer, test by test.
 --   grant-pool, grant-wrong, grant-broken, grant-live, grant-absent   grant's line, in its order
 --   grant-refused, grant-done                   what grant leaves
---   revoke-pool, revoke-zero, revoke-broken, revoke-absent, revoke-removal-broken, revoke-planned    revoke's line
---   hit-deep, hit-step, plan-removes, revoke-refused, revoke-done   what revoke stores and leaves
+--   revoke-not-live, revoke-removal-broken, revoke-planned          revoke's line: its number isn't live, its removal walk is broken, or neither
+--   hit-step, plan-removes, revoke-refused, revoke-done             what revoke stores and leaves
 --   start-refused, start-done
 -- Assumes nothing.
-use Prim.Native.Nat.{ℕ, _-_, _<_, _≤_}
+use Prim.Native.Nat.{ℕ, _-_, _≤_}
 use mathlib.Core.Path.{_≡_, sym, ap, subst, _∙_}
 use mathlib.Core.Bool.{true, false}
-use mathlib.Core.List.{List, [], _∷_}
+use mathlib.Core.List.{List}
 use mathlib.Core.Option.{none, some}
 use native.Mathlib.Omega.{arith}
 use lib.Dec.{eqb·suc-zero}
 use lib.ListN.{length}
-use borrow.Author.Tests.{eq-eqb, ne-eqb}
 use Rattle.model.specs.declared.Fault.{Fault}
-use Rattle.model.specs.declared.Fault.the-variants.{BadPool, ZeroNumber, AlreadyLive, NotLive, BrokenLinks}
+use Rattle.model.specs.declared.Fault.the-variants.{BadPool, AlreadyLive, BrokenLinks}
 use Rattle.model.specs.declared.RequestFault.{RequestFault}
 use Rattle.model.specs.declared.RequestCheck.{RequestCheck}
 use Rattle.model.specs.declared.RequestCheck.the-variants.{Right, Wrong}
@@ -27,7 +26,7 @@ use Rattle.model.specs.Call.{Request, requested}
 use Rattle.model.proofs.RefusalLaws.{firstFault-front}
 use Rattle.model.proofs.ArgumentLaws.{checkFault, firstWrong-fault}
 use Rattle.geometry.specs.Levels.{levels}
-use Rattle.pool.specs.Capacity.{Sized, capacityOf, wrongLength, wrongPool}
+use Rattle.pool.specs.Capacity.{Sized, wrongLength, wrongPool}
 use Rattle.pool.specs.Fresh.{freshPool}
 use Rattle.pool.proofs.CapacityLaws.{cell-inPool, capacityOf-poolLength}
 use Rattle.adt.specs.Insert.{inserted}
@@ -40,14 +39,16 @@ use Rattle.steps.specs.declared.insertion.Insertion.the-variants as insertion
 use Rattle.steps.specs.Insertions.{InsertionPlanned, SlotPlanned}
 use Rattle.steps.proofs.InsertionLaws.{walkCauses, to-walks, absent-line}
 use Rattle.index.specs.declared.find.NumberHit.the-variants as hit
+use Rattle.index.specs.declared.find.LiveHit.the-variants as live
 use Rattle.index.specs.declared.revoke.Removal.the-variants as removal
 use Rattle.calls.specs.Walks.{numberSearch, removalOf}
-use Rattle.calls.specs.Causes.{grantBroken, revokeBroken}
-use Rattle.calls.specs.Order.{startOrder, grantOrder, revokeOrder}
-use Rattle.calls.specs.Calls.{startCall, grantCall, revokeCall, grantLine}
+use Rattle.calls.specs.Causes.{grantBroken}
+use Rattle.calls.specs.Order.{startOrder, grantOrder}
+use Rattle.calls.specs.Calls.{startCall, grantCall, revokeCall}
 use Rattle.calls.specs.Contract.{Leaves}
-use Rattle.index.specs.NumberSearch.{NumberFound}
+use Rattle.index.specs.NumberSearch.{NumberFound, LiveFound}
 use Rattle.index.specs.Plans.{GrantPlanned, RemovalPlanned}
+use Rattle.index.proofs.LiveLineLaws.{revoke-refuses, revoke-goes-on}
 
 -- grant's line, as far as its tests have come
 module _ (w : List ℕ) (r : Request) where
@@ -95,67 +96,51 @@ module _ (w : List ℕ) (r : Request) where
 
 -- revoke's line, as far as its tests have come
 module _ (w : List ℕ) (n : ℕ) where
-  pub revoke-pool : wrongPool w ≡ true → RemovalPlanned w n (removal.Refused BadPool)
-  unfolding RemovalPlanned revokeOrder firstFault
-  revoke-pool e = rw e
+  pub revoke-not-live : (f : Fault) → LiveFound w n (live.Refused f) → RemovalPlanned w n (removal.Refused f)
+  unfolding RemovalPlanned
+  revoke-not-live f e = revoke-refuses w n f e
 
-  module _ (p : wrongPool w ≡ false) where
-    pub revoke-zero : n ≡ 0 → RemovalPlanned w n (removal.Refused ZeroNumber)
-    unfolding RemovalPlanned revokeOrder firstFault
-    revoke-zero e = rw (p, eq-eqb n 0 e)
+  module _ (c cell level link : ℕ) (f : LiveFound w n (live.At c cell level link)) where
+    -- the removal walk is that of the first hit
+    walk : follow w c (levels - level) cell link 1 ≡ removalOf w (numberSearch w n)
+    unfolding LiveFound terminalFrom
+    walk = rw (f .first .found, capacityOf-poolLength w c (f .sized .long))
 
-    module _ (nz : ¬ (n ≡ 0)) where
-      pub revoke-broken : NumberFound w n hit.Broken → RemovalPlanned w n (removal.Refused BrokenLinks)
-      unfolding RemovalPlanned revokeOrder firstFault NumberFound revokeBroken
-      revoke-broken f = rw (p, ne-eqb n 0 nz, f)
+    hit-few : cell ≤ c
+    unfolding LiveFound
+    hit-few = subst (λ (x : ℕ). cell ≤ x) (capacityOf-poolLength w c (f .sized .long)) (f .first .few)
 
-      pub revoke-absent : NumberFound w n hit.Absent → RemovalPlanned w n (removal.Refused NotLive)
-      unfolding RemovalPlanned revokeOrder firstFault NumberFound revokeBroken
-      revoke-absent f = rw (p, ne-eqb n 0 nz, f .unbroken, f .none)
+    -- the removal walk may begin at the first hit
+    pub hit-step : RemovalStep w c (levels - level) cell 1
+    unfolding LiveFound
+    hit-step = record { sized = f .sized; deep = omega arith; some = f .first .some; few = hit-few; met-cells = f .sized .some }
 
-      module _ {c : ℕ} (sized : Sized w c) (cell level link : ℕ) (f : NumberFound w n (hit.At cell level link)) where
-        -- the removal walk is that of the first hit
-        walk : follow w c (levels - level) cell link 1 ≡ removalOf w (numberSearch w n)
-        unfolding NumberFound terminalFrom
-        walk = rw (f .found, capacityOf-poolLength w c (sized .long))
+    pub revoke-removal-broken : remove.broken ≡ follow w c (levels - level) cell link 1 → RemovalPlanned w n (removal.Refused BrokenLinks)
+    unfolding RemovalPlanned LiveFound
+    revoke-removal-broken e = let broken = sym (e ∙ walk) in revoke-goes-on w n (f .passes) ∙ rw broken
 
-        hit-few : cell ≤ c
-        unfolding NumberFound
-        hit-few = subst (λ (x : ℕ). cell ≤ x) (capacityOf-poolLength w c (sized .long)) (f .few)
-
-        pub hit-deep : level ≤ levels
-        unfolding NumberFound
-        hit-deep = f .deep
-
-        -- the removal walk may begin at the first hit
-        pub hit-step : RemovalStep w c (levels - level) cell 1
-        unfolding NumberFound
-        hit-step = record { sized = sized; deep = omega arith; some = f .some; few = hit-few; met-cells = sized .some }
-
-        pub revoke-removal-broken : remove.broken ≡ follow w c (levels - level) cell link 1 → RemovalPlanned w n (removal.Refused BrokenLinks)
-        unfolding RemovalPlanned revokeOrder firstFault NumberFound revokeBroken
-        revoke-removal-broken e = let broken = sym (e ∙ walk) in rw (p, ne-eqb n 0 nz, broken, f .found, eqb·suc-zero (length (f .others)))
-
-        pub revoke-planned : (leaf cut : ℕ) → terminal leaf cut ≡ follow w c (levels - level) cell link 1
-            → RemovalPlanned w n (removal.Of c cell link leaf cut)
-        unfolding RemovalPlanned revokeOrder firstFault NumberFound revokeBroken
-        revoke-planned leaf cut e =
-            let ends = sym (e ∙ walk) in
-            let end = follow-within w c (sized .long) (levels - level) cell link 1 leaf cut (f .some) hit-few (f .place) (sym e) in
-            record {
-              sized = sized;
-              passes = rw (p, ne-eqb n 0 nz, ends, f .found, eqb·suc-zero (length (f .others)));
-              first = rw (f .found);
-              spot = rw (f .found);
-              ends = ends;
-              inside =
-                  record {
-                    cell = cell-inPool sized (f .some) hit-few;
-                    terminal = cell-inPool sized (end .some) (end .few);
-                    at = f .place;
-                    cut-at = end .place;
-                  };
-            }
+    pub revoke-planned : (leaf cut : ℕ) → terminal leaf cut ≡ follow w c (levels - level) cell link 1
+        → RemovalPlanned w n (removal.Of c cell link leaf cut)
+    unfolding RemovalPlanned LiveFound
+    revoke-planned leaf cut e =
+        let ends = sym (e ∙ walk) in
+        let sized = f .sized in
+        let at = f .first in
+        let end = follow-within w c (sized .long) (levels - level) cell link 1 leaf cut (at .some) hit-few (at .place) (sym e) in
+        record {
+          sized = sized;
+          passes = revoke-goes-on w n (f .passes) ∙ rw ends;
+          first = rw (at .found);
+          spot = rw (at .found);
+          ends = ends;
+          inside =
+              record {
+                cell = cell-inPool sized (at .some) hit-few;
+                terminal = cell-inPool sized (end .some) (end .few);
+                at = at .place;
+                cut-at = end .place;
+              };
+        }
 
   pub plan-removes : (c cell link leaf cut : ℕ) → RemovalPlanned w n (removal.Of c cell link leaf cut) → Sized w c × Removable w cell link leaf cut
   unfolding RemovalPlanned

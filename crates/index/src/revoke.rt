@@ -3,15 +3,14 @@ ghost use Rattle.model.specs.Answer.{outcomeAnswer};
 ghost use Rattle.calls.specs.Calls.{revokeCall};
 ghost use Rattle.calls.specs.Contract.{Leaves};
 ghost use Rattle.index.specs.Plans.{RemovalPlanned};
-use crate::find::NumberHit;
-use crate::find::find_number;
+use crate::find::LiveHit;
+use crate::find::find_live;
 use adt::remove::Terminal;
 use adt::remove::find_terminal;
 use adt::remove::remove;
 use geometry::axis::LEVELS;
 use model::Fault;
 use model::Outcome;
-use pool::layout::capacity;
 
 // What revoke is to do, once all walks and tests are done: refuse, or remove a cell that hangs at a link's place by a terminal cell, in a pool of
 // so many cells.
@@ -30,18 +29,15 @@ pub enum Removal {
 fn plan_removal(pool: &[u16], number: u16) -> Removal
     ensures { λ r. ⌜ RemovalPlanned (now (pool .entry)) number r ⌝ }
 {
-    let cells = capacity(pool);
-    if cells == 0 {
-        return Removal::Refused(Fault::BadPool);
-    }
-    if number == 0 {
-        return Removal::Refused(Fault::ZeroNumber);
-    }
-    let hit = find_number(pool, cells, number);
+    let hit = find_live(pool, number);
     match hit {
-        NumberHit::Broken => Removal::Refused(Fault::BrokenLinks),
-        NumberHit::Absent => Removal::Refused(Fault::NotLive),
-        NumberHit::At { cell, level, link } => {
+        LiveHit::Refused(f) => Removal::Refused(f),
+        LiveHit::At {
+            cells,
+            cell,
+            level,
+            link,
+        } => {
             let end = find_terminal(pool, cells, LEVELS - level, cell, link, 1);
             match end {
                 Terminal::Broken => Removal::Refused(Fault::BrokenLinks),

@@ -4,7 +4,7 @@
 --   field-withCell-other        fields of other cells stay
 --   header-withCell             the header's words stay
 --   ofGrant f                   whether a field is one of those that carry a grant
---   grant-past, grant-before    these stand behind the links and before the parent
+--   grant-between               these stand behind the links and before the parent
 --   SameGrantWords w v k        the fields of cell k that carry its grant are the same in both
 --   grantAt-same                then the grant is the same
 --   grantAt-withCell-same       the grant that was stored, if it fits
@@ -63,31 +63,22 @@ ofGrant QuarterFrom = true
 ofGrant QuarterTo = true
 ofGrant Parent = false
 
-pub grant-past : (f : Field) → T (ofGrant f) → offset Right < offset f
-grant-past Left h = absurd h
-grant-past Right h = absurd h
-grant-past Number h = lit< tt
-grant-past RankKind h = lit< tt
-grant-past StaffFrom h = lit< tt
-grant-past StaffTo h = lit< tt
-grant-past DoorFrom h = lit< tt
-grant-past DoorTo h = lit< tt
-grant-past QuarterFrom h = lit< tt
-grant-past QuarterTo h = lit< tt
-grant-past Parent h = absurd h
+pub record BetweenLinksAndParent (f : Field) : Type 0 where
+  pub past : offset Right < offset f
+  pub before : offset f < offset Parent
 
-pub grant-before : (f : Field) → T (ofGrant f) → offset f < offset Parent
-grant-before Left h = absurd h
-grant-before Right h = absurd h
-grant-before Number h = lit< tt
-grant-before RankKind h = lit< tt
-grant-before StaffFrom h = lit< tt
-grant-before StaffTo h = lit< tt
-grant-before DoorFrom h = lit< tt
-grant-before DoorTo h = lit< tt
-grant-before QuarterFrom h = lit< tt
-grant-before QuarterTo h = lit< tt
-grant-before Parent h = absurd h
+pub grant-between : (f : Field) → T (ofGrant f) → BetweenLinksAndParent f
+grant-between Left h = absurd h
+grant-between Right h = absurd h
+grant-between Number h = record { past = lit< tt; before = lit< tt }
+grant-between RankKind h = record { past = lit< tt; before = lit< tt }
+grant-between StaffFrom h = record { past = lit< tt; before = lit< tt }
+grant-between StaffTo h = record { past = lit< tt; before = lit< tt }
+grant-between DoorFrom h = record { past = lit< tt; before = lit< tt }
+grant-between DoorTo h = record { past = lit< tt; before = lit< tt }
+grant-between QuarterFrom h = record { past = lit< tt; before = lit< tt }
+grant-between QuarterTo h = record { past = lit< tt; before = lit< tt }
+grant-between Parent h = absurd h
 
 abbrev pub SameGrantWords : List ℕ → List ℕ → ℕ → Type 0
 SameGrantWords w v k = (f : Field) → T (ofGrant f) → fieldOf v k f ≡ fieldOf w k f
