@@ -2,21 +2,20 @@
 --   enter-blank, enter-deep, enter-apart, enter-above, enter-other, enter-visits    the tests of `enter`, in their order
 --   enter-broken                                                       a broken walk goes no further
 --   stands-as, encodes-as                                              what the memory stands for, once the answer is known
---   child-some                                                         a link that is not blank leads to a cell
 --   ChildAt, child-meets, child-half, child-root                       the link and the region that `enter` goes on with: at the root the root's
 --   child-deep, child-apart, child-past, child-other, child-visited    what the memory stands for after each test of `enter`
+--   entered-cells                                                      `enter` goes by the number of cells that the memory holds
 --   subtree                                                            the state of the search once the subtree of a cell on a side was entered
 --   subtree-blank, subtree-entered                                     what the memory stands for then: nothing hangs there, or `enter` was called
 --   visit-cut, visit-left-cut, visit-whole                             and after each step of `visit`
 -- Assumes nothing.
 use Prim.Native.Nat.{ℕ, zero, suc, _-_, _<_, _≤_}
-use mathlib.Core.Logic.{_≢_}
 use mathlib.Core.Path.{_≡_, refl, sym, ap, subst, _∙_}
 use mathlib.Core.Bool.{Bool, true, false, cond, _&&_}
 use mathlib.Core.List.{List}
 use native.Mathlib.Numerals.{sub-one}
 use native.Mathlib.Omega.{arith}
-use lib.ListN.{length, getD, set}
+use lib.ListN.{getD, set}
 use borrow.Author.Tests.{le-leb, lt-leb, eq-eqb, ne-eqb}
 use lib.Dec.{leb}
 use Rattle.model.specs.declared.Grant.{Grant}
@@ -30,53 +29,43 @@ use Rattle.geometry.proofs.HalfLaws.{set-halfOf}
 use Rattle.pool.specs.Layout.{rootPlace}
 use Rattle.adt.specs.Node.{linkPlace, parentAt, isParent}
 use Rattle.adt.specs.Search.{Spot, Search, broken, going, visitBy, enter}
-use Rattle.adt.specs.SearchMemory.{searchIn, Counted, Encodes, linkEntered, regionEntered, tested, visited, entered}
+use Rattle.adt.specs.SearchMemory.{cellsIn, searchIn, Counted, Encodes, Entering, linkEntered, regionEntered, tested, visited, entered}
 
 pub stands-as : {c : ℕ} {r b : Bool} {h t : List ℕ} {s : Search} → Encodes c r h t s → r ≡ b → searchIn b h t ≡ s
 stands-as {h = h} {t = t} d e = ap (λ (x : Bool). searchIn x h t) (sym e) ∙ d .state
 
 -- the place of the link that is gone through, and the region of the cell that it leads to, which meets the range
-pub record ChildAt (w : List ℕ) (q : Region) (n p : ℕ) (s : Side) (g r : Region) (link : ℕ) : Type 0 where
+pub record ChildAt (q : Region) (n p : ℕ) (s : Side) (g r : Region) (link : ℕ) : Type 0 where
   pub same : r ≡ regionEntered n s g
   pub shape : Shape r
   pub meeting : meets r q ≡ true
   pub at : link ≡ linkEntered n p s
-  pub within : link < length w
 
-module _ (w : List ℕ) (q : Region) (n p : ℕ) (s : Side) (g : Region) where
+module _ (q : Region) (n p : ℕ) (s : Side) (g : Region) where
   -- the answer about the half, on the axis of the level
   module _ (few : n ≤ levels) {a : ℕ} (axis : a ≡ axisOf (levels - n)) {answer : Bool} (met : answer ≡ meets (half s g a) q) where
     pub child-meets : meets (regionEntered n s g) q ≡ answer
     child-meets = rw (le-leb n levels few, ← axis) (sym met)
 
     pub child-half : a < axes → Shape g → answer ≡ true → {r : Region} → r ≡ set g a (halfOf s (low g a) (high g a)) → {link : ℕ} → link ≡ linkPlace p s
-        → link < length w → ChildAt w q n p s g r link
-    child-half in-axes shape t e place lt =
+        → ChildAt q n p s g r link
+    child-half in-axes shape t e place =
         let halved = e ∙ set-halfOf s g a shape in-axes in
         record {
           same = halved ∙ rw (axis, le-leb n levels few);
           shape = subst Shape (sym halved) (half-shape s g a shape in-axes);
           meeting = subst (λ (r : Region). meets r q ≡ true) (sym halved) (sym met ∙ t);
           at = place ∙ rw (le-leb n levels few);
-          within = lt;
         }
 
-  pub child-root : levels < n → Shape g → meets g q ≡ true → {r : Region} → r ≡ g → {link : ℕ} → link ≡ rootPlace → link < length w
-      → ChildAt w q n p s g r link
-  child-root past shape met e place lt =
+  pub child-root : levels < n → Shape g → meets g q ≡ true → {r : Region} → r ≡ g → {link : ℕ} → link ≡ rootPlace → ChildAt q n p s g r link
+  child-root past shape met e place =
       record {
         same = e ∙ rw (lt-leb n levels past);
         shape = subst Shape (sym e) shape;
         meeting = subst (λ (r : Region). meets r q ≡ true) (sym e) met;
         at = place ∙ rw (lt-leb n levels past);
-        within = lt;
       }
-
--- a link that is not blank leads to a cell
-pub child-some : (w : List ℕ) {i k link : ℕ} → getD w i 0 ≢ 0 → link ≡ i → k ≡ getD w link 0 → 0 < k
-child-some w {k = k} leads at e =
-    let nz : ¬ (k ≡ 0) = λ z. leads (ap (λ (l : ℕ). getD w l 0) (sym at) ∙ sym e ∙ z) in
-    omega (arith, nz)
 
 -- the memory under another name, once the answer is known
 pub encodes-as : {c : ℕ} {r b : Bool} {h h′ t t′ : List ℕ} {s : Search} → Encodes c r h t s → r ≡ b → h′ ≡ h → t′ ≡ t → Encodes c b h′ t′ s
@@ -134,41 +123,45 @@ module _ (w : List ℕ) (c : ℕ) (q : Region) (passes : Grant → Bool) where
   enter-broken zero from link g = refl
   enter-broken (suc n) from link g = refl
 
-  -- the link of the cell p on a side, which is not blank; p has the region g
-  module _ (n p : ℕ) (side : Side) (g : Region) {hits counters : List ℕ} (counted : Counted c hits counters) (leads : getD w (linkEntered n p side) 0 ≢ 0) where
+  -- the link of the cell p on a side, which leads to the cell k; p has the region g
+  module _ {n p k : ℕ} {side : Side} {g : Region} {hits counters : List ℕ} (e : Entering w c q hits counters n p side k g) where
     abbrev after : Search
     after = entered w c q passes hits counters n p side g
 
+    not-blank : ¬ (k ≡ 0)
+    not-blank z = omega (arith, e .some)
+
     pub child-deep : n ≡ 0 → Encodes c false hits counters after
-    child-deep z = record { counted = counted; state = enter-deep n p _ _ _ refl _ _ _ leads z }
+    child-deep z = record { counted = e .ready .counted; state = enter-deep n p _ k _ (e .leads) _ _ _ not-blank z }
 
     module _ (some : ¬ (n ≡ 0)) where
       pub child-apart : meets (regionEntered n side g) q ≡ false → Encodes c true hits counters after
-      child-apart m = record { counted = counted; state = enter-apart n p _ _ _ refl _ _ _ leads some m }
+      child-apart m = record { counted = e .ready .counted; state = enter-apart n p _ k _ (e .leads) _ _ _ not-blank some m }
 
-      -- it leads to the cell k, of the region r
-      module _ {k link : ℕ} {r : Region} (child : ChildAt w q n p side g r link) (e : k ≡ getD w link 0) where
-        leads-to : k ≡ getD w (linkEntered n p side) 0
-        leads-to = e ∙ ap (λ (l : ℕ). getD w l 0) (child .at)
-
-        nz : ¬ (k ≡ 0)
-        nz z = leads (sym leads-to ∙ z)
-
+      -- it is gone through at the place `link`, and k has the region r
+      module _ {link : ℕ} {r : Region} (child : ChildAt q n p side g r link) where
         meeting : meets (regionEntered n side g) q ≡ true
         meeting = subst (λ (x : Region). meets x q ≡ true) (child .same) (child .meeting)
 
         pub child-past : c < k → Encodes c false hits counters after
-        child-past past = record { counted = counted; state = enter-above n p _ k _ leads-to _ _ _ nz some meeting past }
+        child-past past = record { counted = e .ready .counted; state = enter-above n p _ k _ (e .leads) _ _ _ not-blank some meeting past }
 
         pub child-other : k ≤ c → ¬ (parentAt w k ≡ p) → Encodes c false hits counters after
-        child-other few other = record { counted = counted; state = enter-other n p _ k _ leads-to _ _ _ nz some meeting few other }
+        child-other few other = record { counted = e .ready .counted; state = enter-other n p _ k _ (e .leads) _ _ _ not-blank some meeting few other }
 
         pub child-visited : k ≤ c → parentAt w k ≡ p → {b : Bool} {hits′ counters′ : List ℕ}
             → Encodes c b hits′ counters′ (visited w c q passes hits counters k (n - 1) link r) → Encodes c b hits′ counters′ after
         child-visited few named v = record {
           counted = v .counted;
-          state = v .state ∙ rw (child .at) (enter-visits n p _ k _ leads-to _ _ _ nz some (child .same) meeting few named);
+          state = v .state ∙ rw (child .at) (enter-visits n p _ k _ (e .leads) _ _ _ not-blank some (child .same) meeting few named);
         }
+
+  -- `enter` goes by the number of cells that the memory holds
+  pub entered-cells : (n p : ℕ) (side : Side) (g : Region) {hits counters : List ℕ} → Counted c hits counters → {r : Bool} {h t : List ℕ}
+      → Encodes (cellsIn counters) r h t (entered w (cellsIn counters) q passes hits counters n p side g)
+      → Encodes c r h t (entered w c q passes hits counters n p side g)
+  entered-cells n p side g {hits} {counters} counted {r} {h} {t} d =
+      subst (λ (m : ℕ). Encodes m r h t (entered w m q passes hits counters n p side g)) (counted .cells) d
 
   -- the subtree of the cell k, of the region g, on a side
   module _ (n k : ℕ) (side : Side) (g : Region) (hits counters : List ℕ) where
@@ -178,8 +171,11 @@ module _ (w : List ℕ) (c : ℕ) (q : Region) (passes : Grant → Bool) where
     pub subtree-blank : getD w (linkPlace k side) 0 ≡ 0 → Counted c hits counters → Encodes c true hits counters subtree
     subtree-blank z counted = record { counted = counted; state = enter-blank n k _ _ _ refl _ _ _ z }
 
-    pub subtree-entered : n ≤ levels → {r : Bool} {h t : List ℕ} → Encodes c r h t (entered w c q passes hits counters n k side g) → Encodes c r h t subtree
-    subtree-entered few d = record { counted = d .counted; state = d .state ∙ rw (le-leb n levels few) }
+    pub subtree-entered : n ≤ levels → Counted c hits counters → {r : Bool} {h t : List ℕ}
+        → Encodes (cellsIn counters) r h t (entered w (cellsIn counters) q passes hits counters n k side g) → Encodes c r h t subtree
+    subtree-entered few counted d =
+        let held = entered-cells n k side g counted d in
+        record { counted = held .counted; state = held .state ∙ rw (le-leb n levels few) }
 
   -- the three steps of a visit of the cell k, from what the memory stands for after each
   module _ (n link k : ℕ) (g : Region) (hits counters : List ℕ) where

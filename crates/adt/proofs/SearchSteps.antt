@@ -18,16 +18,17 @@ use Rattle.geometry.specs.Region.{Region}
 use Rattle.model.specs.Limits.{maxGrants}
 use Rattle.pool.specs.Cell.{grantAt}
 use Rattle.adt.specs.Search.{Spot, firstSpot, meet}
-use Rattle.adt.specs.SearchMemory.{metIn, foundIn, searchIn, Counted, Encodes}
+use Rattle.adt.specs.SearchMemory.{metIn, foundIn, searchIn, counterPlaces, Counted, Encodes}
 
--- a fact about four numbers is one about every list of length 4
-four : (P : List ℕ → Type 0) → ((a b d e : ℕ) → P (a ∷ b ∷ d ∷ e ∷ [])) → (t : List ℕ) → length t ≡ 4 → P t
-four P f [] n = absurd (omega arith)
-four P f (a ∷ []) n = absurd (omega arith)
-four P f (a ∷ b ∷ []) n = absurd (omega arith)
-four P f (a ∷ b ∷ d ∷ []) n = absurd (omega arith)
-four P f (a ∷ b ∷ d ∷ e ∷ []) n = f a b d e
-four P f (a ∷ b ∷ d ∷ e ∷ x ∷ t) n = absurd (omega arith)
+-- a fact about five numbers is one about every list of length 5
+five : (P : List ℕ → Type 0) → ((a b d e f : ℕ) → P (a ∷ b ∷ d ∷ e ∷ f ∷ [])) → (t : List ℕ) → length t ≡ counterPlaces → P t
+five P h [] n = absurd (omega arith)
+five P h (a ∷ []) n = absurd (omega arith)
+five P h (a ∷ b ∷ []) n = absurd (omega arith)
+five P h (a ∷ b ∷ d ∷ []) n = absurd (omega arith)
+five P h (a ∷ b ∷ d ∷ e ∷ []) n = absurd (omega arith)
+five P h (a ∷ b ∷ d ∷ e ∷ f ∷ []) n = h a b d e f
+five P h (a ∷ b ∷ d ∷ e ∷ f ∷ x ∷ t) n = absurd (omega arith)
 
 take-some : (f : ℕ) (h : List ℕ) → 0 < f → 0 < length h → (x : ℕ) × (xs : List ℕ) × (take f h ≡ x ∷ xs)
 take-some zero h p n = absurd (omega arith)
@@ -46,14 +47,14 @@ module _ (w : List ℕ) (c : ℕ) (q : Region) (passes : Grant → Bool) (here :
     pub test-outside : (t : List ℕ) → Counted c h t → met ≡ metIn t → passes (grantAt w k) ≡ false
         → Encodes c true h (set t 0 (met + 1)) (meet w c q passes here k (searchIn true h t))
     unfolding meet
-    test-outside t n e out = four P go t (n .counters-room) n e
+    test-outside t n e out = five P go t (n .counters-room) n e
       where
         P : List ℕ → Type 0
         P t = Counted c h t → met ≡ metIn t → Encodes c true h (set t 0 (met + 1)) (meet w c q passes here k (searchIn true h t))
 
-        go : (a b d e : ℕ) → P (a ∷ b ∷ d ∷ e ∷ [])
-        go a b d e n i = record {
-          counted = record { hit-room = n .hit-room; counters-room = refl; found-met = omega (arith, n .found-met); met-cells = omega arith };
+        go : (a b d e f : ℕ) → P (a ∷ b ∷ d ∷ e ∷ f ∷ [])
+        go a b d e f n i = record {
+          counted = record { hit-room = n .hit-room; counters-room = refl; cells = n .cells; found-met = omega (arith, n .found-met); met-cells = omega arith };
           state = rw (← i, lt-ltb met c lt, out, add-one met);
         }
 
@@ -61,18 +62,19 @@ module _ (w : List ℕ) (c : ℕ) (q : Region) (passes : Grant → Bool) (here :
       pub test-later : (t : List ℕ) → Counted c h t → met ≡ metIn t → found ≡ foundIn t → 0 < found
           → Encodes c true (set h found k) (set (set t 0 (met + 1)) 1 (found + 1)) (meet w c q passes here k (searchIn true h t))
       unfolding meet
-      test-later t n em ef pos = four P go t (n .counters-room) n em ef
+      test-later t n em ef pos = five P go t (n .counters-room) n em ef
         where
           P : List ℕ → Type 0
           P t = Counted c h t → met ≡ metIn t → found ≡ foundIn t
               → Encodes c true (set h found k) (set (set t 0 (met + 1)) 1 (found + 1)) (meet w c q passes here k (searchIn true h t))
 
-          go : (a b d e : ℕ) → P (a ∷ b ∷ d ∷ e ∷ [])
-          go a b d e n i j = record {
+          go : (a b d e f : ℕ) → P (a ∷ b ∷ d ∷ e ∷ f ∷ [])
+          go a b d e f n i j = record {
             counted =
                 record {
                   hit-room = length-set h found k ∙ n .hit-room;
                   counters-room = refl;
+                  cells = n .cells;
                   found-met = omega (arith, n .found-met);
                   met-cells = omega arith;
                 };
@@ -93,19 +95,20 @@ module _ (w : List ℕ) (c : ℕ) (q : Region) (passes : Grant → Bool) (here :
           → Encodes c true (set h found k) (set (set (set (set t 0 (met + 1)) 1 (found + 1)) 2 (here .level)) 3 (here .link))
           (meet w c q passes here k (searchIn true h t))
       unfolding meet
-      test-first t n em ef z = four P go t (n .counters-room) n em ef
+      test-first t n em ef z = five P go t (n .counters-room) n em ef
         where
           P : List ℕ → Type 0
           P t = Counted c h t → met ≡ metIn t → found ≡ foundIn t
               → Encodes c true (set h found k) (set (set (set (set t 0 (met + 1)) 1 (found + 1)) 2 (here .level)) 3 (here .link))
               (meet w c q passes here k (searchIn true h t))
 
-          go : (a b d e : ℕ) → P (a ∷ b ∷ d ∷ e ∷ [])
-          go a b d e n i j = record {
+          go : (a b d e f : ℕ) → P (a ∷ b ∷ d ∷ e ∷ f ∷ [])
+          go a b d e f n i j = record {
             counted =
                 record {
                   hit-room = length-set h found k ∙ n .hit-room;
                   counters-room = refl;
+                  cells = n .cells;
                   found-met = omega (arith, n .found-met);
                   met-cells = omega arith;
                 };

@@ -3,7 +3,7 @@
 ghost use Rattle.geometry.specs.SearchRange.{OneSided};
 ghost use Rattle.adt.specs.Search.{searchBy};
 ghost use Rattle.adt.specs.Predicate.{testOf, predicateIn};
-ghost use Rattle.adt.specs.SearchMemory.{Fresh, Encodes, Testing, Visiting, Entering, tested, visited, entered};
+ghost use Rattle.adt.specs.SearchMemory.{cellsIn, Fresh, Encodes, Testing, Visiting, Entering, tested, visited, entered};
 use crate::node::link_place;
 use crate::predicates::Predicate;
 use crate::predicates::PredicateWords;
@@ -26,10 +26,13 @@ use pool::layout::wide;
 // Room for a hit of every cell: the cells of the hits, in the order of the search.
 pub type HitCells = [u16; MAX_CAPACITY];
 
-// What a search counts beside its hits.
-pub type Counters = [usize; 4];
+// How many numbers a search keeps beside its hits.
+pub const COUNTER_PLACES: usize = 5;
 
-// The places of a search's counters: the cells met, the hits found, and of the first hit its level and the place of the link it hangs on.
+pub type Counters = [usize; COUNTER_PLACES];
+
+// The places of a search's counters: the cells met, the hits found, of the first hit its level and the place of the link it hangs on, and how many
+// cells there are. The last stays as it is; as an argument of its own it would be copied at each cell.
 const MET: usize = 0;
 
 pub const FOUND: usize = 1;
@@ -38,10 +41,11 @@ pub const LEVEL: usize = 2;
 
 pub const LINK: usize = 3;
 
+const CELLS: usize = 4;
+
 // Counts the cell k as met, and keeps it if it is a hit; false where all cells have been met before.
 fn test(
     pool: &[u16],
-    cells: usize,
     k: usize,
     level: usize,
     link: usize,
@@ -50,14 +54,14 @@ fn test(
     hits: &mut HitCells,
     counters: &mut Counters,
 ) -> bool
-    requires { ⌜ Testing (now pool) cells (now range) (now hits) (now counters) k ⌝ }
-    ensures { λ r. ⌜ Encodes cells r (now (hits .exit)) (now (counters .exit))
-        (tested (now (pool .entry)) cells (now (range .entry)) (testOf (predicateIn (now (predicate .entry))) (now (range .entry)))
-        (now (hits .entry)) (now (counters .entry)) k level link) ⌝ }
+    requires { ⌜ Testing (now pool) (cellsIn (now counters)) (now range) (now hits) (now counters) k ⌝ }
+    ensures { λ r. ⌜ Encodes (cellsIn (now (counters .entry))) r (now (hits .exit)) (now (counters .exit))
+        (tested (now (pool .entry)) (cellsIn (now (counters .entry))) (now (range .entry))
+        (testOf (predicateIn (now (predicate .entry))) (now (range .entry))) (now (hits .entry)) (now (counters .entry)) k level link) ⌝ }
 {
     let met = counters[MET];
     let found = counters[FOUND];
-    if cells <= met {
+    if counters[CELLS] <= met {
         return false;
     }
     counters[MET] = met + 1;
@@ -78,7 +82,6 @@ fn test(
 // right subtree, where it has one.
 fn visit(
     pool: &[u16],
-    cells: usize,
     below: usize,
     k: usize,
     link: usize,
@@ -88,32 +91,23 @@ fn visit(
     hits: &mut HitCells,
     counters: &mut Counters,
 ) -> bool
-    requires { ⌜ Visiting (now pool) cells (now range) (now hits) (now counters) k below region ⌝ }
-    ensures { λ r. ⌜ Encodes cells r (now (hits .exit)) (now (counters .exit))
-        (visited (now (pool .entry)) cells (now (range .entry)) (testOf (predicateIn (now (predicate .entry))) (now (range .entry)))
-        (now (hits .entry)) (now (counters .entry)) k below link region) ⌝ }
+    requires { ⌜ Visiting (now pool) (cellsIn (now counters)) (now range) (now hits) (now counters) k below region ⌝ }
+    ensures { λ r. ⌜ Encodes (cellsIn (now (counters .entry))) r (now (hits .exit)) (now (counters .exit))
+        (visited (now (pool .entry)) (cellsIn (now (counters .entry))) (now (range .entry))
+        (testOf (predicateIn (now (predicate .entry))) (now (range .entry))) (now (hits .entry)) (now (counters .entry)) k below link region) ⌝ }
 {
     let level = LEVELS - below;
-    if !test(
-        pool,
-        cells,
-        k,
-        level,
-        link,
-        range,
-        predicate,
-        hits,
-        counters,
-    ) {
+    if !test(pool, k, level, link, range, predicate, hits, counters) {
         return false;
     }
-    if field(pool, k, Field::Left) != 0 {
+    let left = wide(field(pool, k, Field::Left));
+    if left != 0 {
         if !enter(
             pool,
-            cells,
             below,
             k,
             Side::Left,
+            left,
             region,
             range,
             predicate,
@@ -123,15 +117,16 @@ fn visit(
             return false;
         }
     }
-    if field(pool, k, Field::Right) == 0 {
+    let right = wide(field(pool, k, Field::Right));
+    if right == 0 {
         return true;
     }
     enter(
         pool,
-        cells,
         below,
         k,
         Side::Right,
+        right,
         region,
         range,
         predicate,
@@ -140,25 +135,25 @@ fn visit(
     )
 }
 
-// Goes through the link of the parent on a side, which isn't blank, if the half of the parent's region on that side meets the range, and visits
-// the cell there, which must name that parent. So many levels are below the parent. The root, entered with one level more than there are, has no
+// Goes through the link of the parent on a side, which leads to the child, if the half of the parent's region on that side meets the range, and
+// visits the child, which must name that parent. So many levels are below the parent. The root, entered with one level more than there are, has no
 // parent, and all of the region that is handed in. `visit` is called from here alone, so that both are one frame of the stack a level (tests/stack).
 fn enter(
     pool: &[u16],
-    cells: usize,
     below: usize,
     parent: usize,
     side: Side,
+    child: usize,
     mut region: Region,
     range: &Region,
     predicate: &PredicateWords,
     hits: &mut HitCells,
     counters: &mut Counters,
 ) -> bool
-    requires { ⌜ Entering (now pool) cells (now range) (now hits) (now counters) below parent side region ⌝ }
-    ensures { λ r. ⌜ Encodes cells r (now (hits .exit)) (now (counters .exit))
-        (entered (now (pool .entry)) cells (now (range .entry)) (testOf (predicateIn (now (predicate .entry))) (now (range .entry)))
-        (now (hits .entry)) (now (counters .entry)) below parent side region) ⌝ }
+    requires { ⌜ Entering (now pool) (cellsIn (now counters)) (now range) (now hits) (now counters) below parent side child region ⌝ }
+    ensures { λ r. ⌜ Encodes (cellsIn (now (counters .entry))) r (now (hits .exit)) (now (counters .exit))
+        (entered (now (pool .entry)) (cellsIn (now (counters .entry))) (now (range .entry))
+        (testOf (predicateIn (now (predicate .entry))) (now (range .entry))) (now (hits .entry)) (now (counters .entry)) below parent side region) ⌝ }
 {
     if below == 0 {
         return false;
@@ -172,8 +167,7 @@ fn enter(
         region[axis] = half_of(side, region[axis][0], region[axis][1]);
         link = link_place(parent, side);
     }
-    let child = wide(pool[link]);
-    if cells < child {
+    if counters[CELLS] < child {
         return false;
     }
     if wide(field(pool, child, Field::Parent)) != parent {
@@ -181,7 +175,6 @@ fn enter(
     }
     visit(
         pool,
-        cells,
         below - 1,
         child,
         link,
@@ -207,7 +200,9 @@ pub fn search(
     ensures { λ r. ⌜ Encodes cells r (now (hits .exit)) (now (counters .exit))
         (searchBy (now (pool .entry)) (now (range .entry)) (testOf predicate (now (range .entry)))) ⌝ }
 {
-    if pool[ROOT] == 0 {
+    counters[CELLS] = cells;
+    let root = wide(pool[ROOT]);
+    if root == 0 {
         return true;
     }
     let region = root_region();
@@ -217,10 +212,10 @@ pub fn search(
     let words = words_of(predicate);
     enter(
         pool,
-        cells,
         LEVELS + 1,
         0,
         Side::Left,
+        root,
         region,
         range,
         &words,

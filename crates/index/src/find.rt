@@ -2,6 +2,7 @@
 ghost use Rattle.pool.specs.Capacity.{Sized};
 ghost use Rattle.index.specs.NumberSearch.{NumberFound, LiveFound};
 use adt::predicates::Predicate;
+use adt::search::COUNTER_PLACES;
 use adt::search::FOUND;
 use adt::search::LEVEL;
 use adt::search::LINK;
@@ -28,7 +29,7 @@ pub fn find_number(pool: &[u16], cells: usize, number: u16) -> NumberHit
     ensures { λ r. ⌜ NumberFound (now (pool .entry)) number r ⌝ }
 {
     let mut hits = [0u16; MAX_CAPACITY];
-    let mut counters = [0usize; 4];
+    let mut counters = [0usize; COUNTER_PLACES];
     let range = range_of_number(number);
     if !search(
         pool,

@@ -2,6 +2,7 @@
 ghost use Rattle.adt.specs.Predicate.{testOf};
 ghost use Rattle.steps.specs.Hits.{Searchable, BoxSearchable, HitsFound, TakenFound};
 use adt::predicates::Predicate;
+use adt::search::COUNTER_PLACES;
 use adt::search::FOUND;
 use adt::search::HitCells;
 use adt::search::search;
@@ -27,7 +28,7 @@ pub fn find_hits(
     requires { ⌜ Searchable (now pool) cells (now range) (now hits) ⌝ }
     ensures { λ r. ⌜ HitsFound (now (pool .entry)) (now (range .entry)) (testOf predicate (now (range .entry))) (now (hits .exit)) r ⌝ }
 {
-    let mut counters = [0usize; 4];
+    let mut counters = [0usize; COUNTER_PLACES];
     if !search(pool, cells, range, predicate, hits, &mut counters) {
         return Hits::Broken;
     }

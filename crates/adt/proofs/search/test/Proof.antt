@@ -13,12 +13,15 @@ element-copy-out-met c = search needs
 element-copy-out-found : tie.Need-element-copy-out-found
 element-copy-out-found c = search needs
 
+element-copy-out-if1 : tie.Need-element-copy-out-if1
+element-copy-out-if1 c = search needs
+
 returns : tie.Need-returns
 returns c =
-    let start = c .before .before .before .before in
+    let start = c .before .before .before .before .before in
     let a = start .args in
     let here : Spot = record { level = a .level; link = a .link } in
-    test-full (a .pool .now) (a .cells) (a .range .now) _ here (a .k) (a .hits .now) (start .pre .ready .few)
+    test-full (a .pool .now) _ (a .range .now) _ here (a .k) (a .hits .now) (start .pre .ready .few)
     (a .counters .now) (start .pre .ready .counted) (c .if1 .taken)
 
 add-counters : tie.Need-add-counters
@@ -33,11 +36,11 @@ is-hit-requires c κs = search needs
 returns-2 : tie.Need-returns-2
 returns-2 c =
     let one = c .before .before in
-    let start = one .before .before .before .before in
+    let start = one .before .before .before .before .before in
     let a = start .args in
     let here : Spot = record { level = a .level; link = a .link } in
     let outside = sym (c .before .is-hit .ensures) ∙ sym (Bool·not-not _) ∙ ap not (c .if2 .taken) in
-    test-outside (a .pool .now) (a .cells) (a .range .now) _ here (a .k) (a .hits .now) (start .pre .ready .few)
+    test-outside (a .pool .now) _ (a .range .now) _ here (a .k) (a .hits .now) (start .pre .ready .few)
     _ (one .if1 .left) (a .counters .now) (start .pre .ready .counted) refl outside
 
 add-counters-2 : tie.Need-add-counters-2
@@ -59,11 +62,11 @@ returns-3 : tie.Need-returns-3
 returns-3 c =
     let tested = c .before .before in
     let one = tested .before in
-    let start = one .before .before .before .before in
+    let start = one .before .before .before .before .before in
     let a = start .args in
     let here : Spot = record { level = a .level; link = a .link } in
     let hit = sym (tested .is-hit .ensures) ∙ sym (Bool·not-not _) ∙ ap not (c .before .if2 .left) in
-    test-later (a .pool .now) (a .cells) (a .range .now) _ here (a .k) (a .hits .now) (start .pre .ready .few)
+    test-later (a .pool .now) _ (a .range .now) _ here (a .k) (a .hits .now) (start .pre .ready .few)
     _ (one .if1 .left) _ hit (a .counters .now) (start .pre .ready .counted) refl refl (c .if3 .taken)
 
 element-write-counters-3 : tie.Need-element-write-counters-3
@@ -76,11 +79,11 @@ returns-4 : tie.Need-returns-4
 returns-4 c =
     let tested = c .before .before in
     let one = tested .before in
-    let start = one .before .before .before .before in
+    let start = one .before .before .before .before .before in
     let a = start .args in
     let here : Spot = record { level = a .level; link = a .link } in
     let hit = sym (tested .is-hit .ensures) ∙ sym (Bool·not-not _) ∙ ap not (c .before .if2 .left) in
-    test-first (a .pool .now) (a .cells) (a .range .now) _ here (a .k) (a .hits .now) (start .pre .ready .few)
+    test-first (a .pool .now) _ (a .range .now) _ here (a .k) (a .hits .now) (start .pre .ready .few)
     _ (one .if1 .left) _ hit (a .counters .now) (start .pre .ready .counted) refl refl (c .if3 .left)
 
 pub test-spec : {M : Type 1} → statement M
@@ -89,6 +92,7 @@ test-spec =
     (tie.spec
     element-copy-out-met
     element-copy-out-found
+    element-copy-out-if1
     returns
     add-counters
     element-write-counters
