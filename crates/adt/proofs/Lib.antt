@@ -35,4 +35,5 @@ pub mod LiveLaws
 pub mod CarriesLaws
 pub mod ReachLaws
 pub mod PathLaws
+pub mod SearchPaths
 pub mod FreeHeadLaws

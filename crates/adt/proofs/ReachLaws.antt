@@ -14,6 +14,7 @@
 --   linked-same         two that end at one cell are one
 --   linked-placed, linked-shallow  their points lie in the regions there; no path is longer than 112
 --   linked-parent       the parent that a cell names is the cell before it
+--   linked-along        so along every path to a cell
 --   carries-one         a cell carries one grant
 -- Assumes nothing.
 use Prim.Native.Nat.{ℕ, zero, suc, _+_, _*_, _-_, _<_, _≤_}
@@ -41,7 +42,7 @@ use Rattle.geometry.specs.Region.{Region, half}
 use Rattle.geometry.specs.Point.{inside}
 use Rattle.pool.specs.Cell.{grantWords}
 use Rattle.adt.specs.Node.{linkPlace, parentAt, pointAt}
-use Rattle.adt.specs.Reach.{childOf, nodeAt, cellBefore, freeAt, Path, fromRoot, fromFree, endOf, Once, regionOf, Carries}
+use Rattle.adt.specs.Reach.{childOf, nodeAt, cellBefore, NamesBefore, ParentsAlong, freeAt, Path, fromRoot, fromFree, endOf, Once, regionOf, Carries}
 use Rattle.adt.proofs.Spells.{Tree, blank, node, cellsOf, Spells, spells-blank, spells-node, FreeChain, chain-end, chain-more}
 use Rattle.adt.proofs.Parents.{Parented, parented-blank, parented-first, parented-child}
 use Rattle.adt.proofs.TreeLaws.{child, spells-child}
@@ -249,3 +250,12 @@ module _ {w : List ℕ} {c : ℕ} {t : Tree} {ks : List ℕ} (h : Linked w c t k
 
   pub linked-parent : (p : List Side) → 0 < nodeAt w p → parentAt w (nodeAt w p) ≡ cellBefore w p
   linked-parent p i = let r = spells-path p in spells-parent i (r .1) (r .2)
+
+  names-before : (p : List Side) → 0 < nodeAt w p → NamesBefore w c p
+  names-before p i = record { some = i; few = linked-within (fromRoot p); named = linked-parent p i }
+
+  -- along every path to a cell
+  pub linked-along : (p : List Side) → 0 < nodeAt w p → ParentsAlong w c p
+  unfolding ParentsAlong
+  linked-along [] i = names-before [] i
+  linked-along (s ∷ p) i = (names-before (s ∷ p) i, linked-along p (path-before w p s i))

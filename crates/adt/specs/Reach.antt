@@ -6,6 +6,9 @@
 --   regionOf p        the region of the cell at a path: the root's, halved link by link on the way. The cell is behind as many
 --                     cells as the path has steps.
 --   cellBefore w p    the cell that the path p passes last before its end, 0 at the root
+--   NamesBefore w c p   the path p ends at one of the c cells, which names the cell before it as its parent
+--   ParentsAlong w c p  so does each path that p passes on its way, and p
+--   PathTo w c k l    such a path, of l steps, that ends at the cell k
 --   Carries w k g     the words of the cell k are those of the grant g; IsFree w k next: those of a free cell that leads to next
 --   Holds w c gs      the links reach each of the c cells once, and the cells reached from the root carry the grants gs,
 --                     one each, each with its point in the region there, none behind more than 112 others, each naming as its parent the cell
@@ -42,6 +45,21 @@ nodeAt w (s ∷ p) = childOf w (nodeAt w p) s
 unfoldable pub cellBefore : List ℕ → List Side → ℕ
 cellBefore w [] = 0
 cellBefore w (s ∷ p) = nodeAt w p
+
+pub record NamesBefore (w : List ℕ) (c : ℕ) (p : List Side) : Type 0 where
+  pub some : 0 < nodeAt w p
+  pub few : nodeAt w p ≤ c
+  pub named : parentAt w (nodeAt w p) ≡ cellBefore w p
+
+unfoldable pub ParentsAlong : List ℕ → ℕ → List Side → Type 0
+ParentsAlong w c [] = NamesBefore w c []
+ParentsAlong w c (s ∷ p) = NamesBefore w c (s ∷ p) × ParentsAlong w c p
+
+pub record PathTo (w : List ℕ) (c k l : ℕ) : Type 0 where
+  pub path : List Side
+  pub ends : nodeAt w path ≡ k
+  pub steps : length path ≡ l
+  pub parents : ParentsAlong w c path
 
 unfoldable pub freeAt : List ℕ → ℕ → ℕ
 freeAt w zero = getD w freePlace 0

@@ -1,22 +1,23 @@
 -- What is answered of a cell on the way up, step by step and test by test.
 --   ancestor-here, ancestor-end            no step is left; the way has ended at the root
---   ancestor-blank, ancestor-outside       the parent that the cell names is none, or no cell of the pool
---   ancestor-up, ancestor-parent           else the way goes on from it
+--   ancestor-parent                        else it goes on from the parent
+--   walk-cell, walk-parent                 a cell on the way is one of the pool, and so is its parent
 --   path-refused                           a number that isn't live
 --   path-starts, path-done                 the way up may start at the number's first hit, and is then the answer
 -- Assumes nothing.
 use Prim.Native.Nat.{ℕ, zero, suc, _-_, _<_, _≤_}
-use mathlib.Core.Path.{_≡_, refl, sym, _∙_}
-use mathlib.Core.List.{List}
+use mathlib.Core.Path.{_≡_, refl, sym, ap, subst, _∙_}
+use mathlib.Core.List.{List, [], _∷_}
 use native.Mathlib.Omega.{arith}
 use lib.ListN.{length}
-use borrow.Author.Tests.{eq-eqb, ne-eqb, lt-ltb, le-ltb}
 use Rattle.model.specs.declared.Fault.{Fault}
-use Rattle.model.specs.declared.Fault.the-variants.{BrokenLinks}
-use Rattle.pool.specs.Capacity.{poolLength}
+use Rattle.geometry.specs.declared.Side.{Side}
+use Rattle.pool.specs.Capacity.{Sized, InPool, capacityOf}
 use Rattle.pool.specs.Cell.{grantAt}
-use Rattle.pool.proofs.CapacityLaws.{capacityOf-poolLength}
+use Rattle.pool.proofs.CapacityLaws.{capacityOf-poolLength, cell-inPool}
 use Rattle.adt.specs.Node.{parentAt}
+use Rattle.adt.specs.Reach.{nodeAt, cellBefore, ParentsAlong, PathTo}
+use Rattle.adt.proofs.SearchPaths.{along-end}
 use Rattle.index.specs.declared.find.LiveHit.the-variants as live
 use Rattle.index.specs.NumberSearch.{LiveFound}
 use Rattle.grant_path.specs.declared.ancestors.Ancestor.{Ancestor}
@@ -33,33 +34,37 @@ module _ (w : List ℕ) (k : ℕ) where
   ancestor-end l zero more z = absurd (omega arith)
   ancestor-end l (suc i) more z = rw z
 
--- a step upward, in words of a pool of c cells
-module _ (w : List ℕ) (c : ℕ) (long : length w ≡ poolLength c) (k : ℕ) {p : ℕ} (named : p ≡ parentAt w k) where
-  pub ancestor-blank : (l i : ℕ) → 0 < i → ¬ (l ≡ 0) → p ≡ 0 → Refused BrokenLinks ≡ ancestorFrom w k l i
+  pub ancestor-parent : {p : ℕ} → p ≡ parentAt w k → (l i : ℕ) → 0 < i → ¬ (l ≡ 0) → ancestorFrom w p (l - 1) (i - 1) ≡ ancestorFrom w k l i
   unfolding ancestorFrom
-  ancestor-blank l zero more n none = absurd (omega arith)
-  ancestor-blank zero (suc i) more n none = absurd (n refl)
-  ancestor-blank (suc l) (suc i) more n none = rw (eq-eqb (parentAt w k) 0 (sym named ∙ none))
+  ancestor-parent named l zero more n = absurd (omega arith)
+  ancestor-parent named zero (suc i) more n = absurd (n refl)
+  ancestor-parent named (suc l) (suc i) more n =
+      let level : suc l - 1 ≡ l = omega arith in
+      let left : suc i - 1 ≡ i = omega arith in
+      rw (level, left, named)
 
-  pub ancestor-outside : (l i : ℕ) → 0 < i → ¬ (l ≡ 0) → ¬ (p ≡ 0) → c < p → Refused BrokenLinks ≡ ancestorFrom w k l i
-  unfolding ancestorFrom
-  ancestor-outside l zero more n some high = absurd (omega arith)
-  ancestor-outside zero (suc i) more n some high = absurd (n refl)
-  ancestor-outside (suc l) (suc i) more n some high = rw (← named, ne-eqb p 0 some, capacityOf-poolLength w c long, lt-ltb c p high)
+module _ {w : List ℕ} {k l : ℕ} (walk : ParentWalk w k l) where
+  pub walk-cell : InPool w k
+  walk-cell =
+      let to = walk .path in
+      let end = along-end w (capacityOf w) (to .path) (to .parents) in
+      cell-inPool (walk .sized) (omega (arith, end .some, to .ends)) (omega (arith, end .few, to .ends))
 
-  module _ (some : ¬ (p ≡ 0)) (low : p ≤ c) where
-    pub ancestor-up : (l i : ℕ) → ancestorFrom w k (suc l) (suc i) ≡ ancestorFrom w p l i
-    unfolding ancestorFrom
-    ancestor-up l i = rw (← named, ne-eqb p 0 some, capacityOf-poolLength w c long, le-ltb c p low)
-
-    -- the same in the numbers of a loop
-    pub ancestor-parent : (l i : ℕ) → 0 < i → ¬ (l ≡ 0) → ancestorFrom w p (l - 1) (i - 1) ≡ ancestorFrom w k l i
-    ancestor-parent l zero more n = absurd (omega arith)
-    ancestor-parent zero (suc i) more n = absurd (n refl)
-    ancestor-parent (suc l) (suc i) more n =
-        let level : suc l - 1 ≡ l = omega arith in
-        let left : suc i - 1 ≡ i = omega arith in
-        rw (level, left) (sym (ancestor-up l i))
+  pub walk-parent : ¬ (l ≡ 0) → {p : ℕ} → p ≡ parentAt w k → ParentWalk w p (l - 1)
+  unfolding ParentsAlong cellBefore
+  walk-parent n {p} named =
+      let to = walk .path in
+      record { sized = walk .sized; path = go (to .path) (to .ends) (to .steps) (to .parents); deep = omega (arith, walk .deep) }
+    where
+      go : (q : List Side) → nodeAt w q ≡ k → length q ≡ l → ParentsAlong w (capacityOf w) q → PathTo w (capacityOf w) p (l - 1)
+      go [] ends steps along = absurd (n (sym steps))
+      go (s ∷ q) ends steps along =
+          record {
+            path = q;
+            ends = sym (named ∙ ap (parentAt w) (sym ends) ∙ along .0 .named);
+            steps = omega (arith, steps);
+            parents = along .1;
+          }
 
 -- the number's line of faults, and the way up from its first hit
 module _ (w : List ℕ) (n i : ℕ) where
@@ -68,13 +73,12 @@ module _ (w : List ℕ) (n i : ℕ) where
   path-refused f e = rw e
 
   module _ (c cell level link : ℕ) (f : LiveFound w n (live.At c cell level link)) where
-    pub path-starts : ParentWalk w c cell level
+    pub path-starts : ParentWalk w cell level
     unfolding LiveFound
     path-starts =
         record {
-          sized = f .sized;
-          some = f .first .some;
-          few = omega (arith, f .first .few, capacityOf-poolLength w c (f .sized .long));
+          sized = subst (Sized w) (sym (capacityOf-poolLength w c (f .sized .long))) (f .sized);
+          path = f .first .path;
           deep = f .first .deep;
         }
 

@@ -18,9 +18,9 @@ pub enum Ancestor {
     Refused(Fault),
 }
 
-// The cell so many steps above a cell, in a pool of so many cells. A parent that is no cell of the pool can't be where a search came to its end.
-fn ancestor_from(pool: &[u16], cells: usize, cell: usize, level: usize, steps: usize) -> Ancestor
-    requires { ⌜ ParentWalk (now pool) cells cell level ⌝ }
+// The cell so many steps above a cell, which is at this level. The search that found the cell has tested all parents on the way to it.
+fn ancestor_from(pool: &[u16], cell: usize, level: usize, steps: usize) -> Ancestor
+    requires { ⌜ ParentWalk (now pool) cell level ⌝ }
     ensures { λ r. ⌜ r ≡ ancestorFrom (now (pool .entry)) cell level steps ⌝ }
 {
     let mut at = cell;
@@ -30,14 +30,7 @@ fn ancestor_from(pool: &[u16], cells: usize, cell: usize, level: usize, steps: u
         if above == 0 {
             return Ancestor::End;
         }
-        let parent = wide(field(pool, at, Field::Parent));
-        if parent == 0 {
-            return Ancestor::Refused(Fault::BrokenLinks);
-        }
-        if cells < parent {
-            return Ancestor::Refused(Fault::BrokenLinks);
-        }
-        at = parent;
+        at = wide(field(pool, at, Field::Parent));
         above -= 1;
         left -= 1;
     }
@@ -56,10 +49,10 @@ pub fn ancestor_at(pool: &[u16], number: u16, i: usize) -> Ancestor
     match hit {
         LiveHit::Refused(f) => Ancestor::Refused(f),
         LiveHit::At {
-            cells,
+            cells: _,
             cell,
             level,
             link: _,
-        } => ancestor_from(pool, cells, cell, level, i),
+        } => ancestor_from(pool, cell, level, i),
     }
 }

@@ -4,7 +4,7 @@
 use Prim.Native.Nat.{ℕ, zero, suc, _<_, _≤_}
 use mathlib.Core.Path.{_≡_, refl, sym, ap, subst, _∙_}
 use mathlib.Core.Bool.{Bool, true, false}
-use mathlib.Core.List.{List, [], _∷_, map}
+use mathlib.Core.List.{List, [], _∷_}
 use native.Mathlib.Omega.{arith}
 use native.Mathlib.Decide.{decLt}
 use lib.ListN.{length, take, getD, List·getD-eq-default}
@@ -16,10 +16,11 @@ use Rattle.pool.specs.Capacity.{Sized}
 use Rattle.pool.proofs.CapacityLaws.{capacityOf-poolLength}
 use Rattle.adt.specs.Search.{Spot, going, search}
 use Rattle.adt.specs.SearchMemory.{metIn, foundIn, searchIn, Encodes}
-use Rattle.adt.specs.Links.{Link, hitsAmong}
+use Rattle.adt.specs.Links.{hitsAmong}
 use Rattle.adt.proofs.EnterSteps.{stands-as}
 use Rattle.adt.proofs.HitLaws.{stands-within}
 use Rattle.adt.proofs.SearchLinks.{search-going}
+use Rattle.adt.proofs.SearchPaths.{links-some, going-path}
 use Rattle.index.specs.declared.find.NumberHit.the-variants.{Broken, Absent, At}
 use Rattle.calls.specs.Walks.{numberSearch, isBroken, hitsOf}
 use Rattle.index.specs.NumberSearch.{NumberFound}
@@ -28,10 +29,6 @@ head-take : (f : ℕ) (h : List ℕ) → ¬ (f ≡ 0) → 0 < length h → (othe
 head-take zero h n p = absurd (n refl)
 head-take (suc f) [] n p = absurd (omega arith)
 head-take (suc f) (x ∷ xs) n p = (take f xs, refl)
-
-map-some : (links : List Link) {k : ℕ} {ks : List ℕ} → k ∷ ks ≡ map (λ (link : Link). link .to) links → (f : Link) × (fs : List Link) × (links ≡ f ∷ fs)
-map-some [] e = absurd (let z : _≡_ {A = ℕ} 0 1 = cc in omega arith)
-map-some (f ∷ fs) e = (f, fs, refl)
 
 -- a place that holds something lies in the words
 holds-within : (w : List ℕ) (i : ℕ) → 0 < getD w i 0 → i < length w
@@ -64,7 +61,7 @@ module _ (w : List ℕ) (n c : ℕ) (q : Region) (eq : q ≡ rangeOfNumber n) (s
       let first : Spot = record { level = getD t 2 0; link = getD t 3 0 } in
       let found : search w q ≡ going (metIn t) (getD h 0 0 ∷ take .0) first = sym (st .state) ∙ ap (λ (hs : List ℕ). going (metIn t) hs first) (take .1) in
       let all = search-going w q (inRange q) _ _ _ found in
-      let some = map-some _ (all .found) in
+      let some = links-some _ (all .found) in
       let hit = all .first-hit (some .0) (some .1) (some .2) in
       let on : getD w (getD t 3 0) 0 ≡ getD h 0 0 = hit .holds ∙ sym (hit .cell) in
       record {
@@ -75,4 +72,5 @@ module _ (w : List ℕ) (n c : ℕ) (q : Region) (eq : q ≡ rangeOfNumber n) (s
         few = subst (λ (x : ℕ). getD h 0 0 ≤ x) (sym cap) (cell .few);
         deep = subst (λ (x : ℕ). x ≤ levels) (sym (hit .level)) (hit .within .above);
         place = holds-within w (getD t 3 0) (omega (arith, on, cell .some));
+        path = going-path w q (inRange q) _ _ _ _ found;
       }

@@ -35,7 +35,8 @@ lineOf wrong zero broken unhit = firstFault (BadPool if wrong ∷ ZeroNumber if 
 abbrev lineThen : Bool → Bool → Bool → Bool → Bool → Option Fault
 lineThen wrong zero broken unhit removal = lineOf wrong zero (broken || not unhit && removal) unhit
 
-refuses-then : (wrong zero broken unhit removal : Bool) (f : Fault) → lineOf wrong zero broken unhit ≡ some f → lineThen wrong zero broken unhit removal ≡ some f
+refuses-then : (wrong zero broken unhit removal : Bool) (f : Fault) → lineOf wrong zero broken unhit ≡ some f
+    → lineThen wrong zero broken unhit removal ≡ some f
 unfolding firstFault
 refuses-then true zero broken unhit removal f e = e
 refuses-then false true broken unhit removal f e = e

@@ -12,6 +12,7 @@ use Rattle.model.specs.Refusal.{firstFault}
 use Rattle.geometry.specs.Levels.{levels}
 use Rattle.pool.specs.Capacity.{Sized, capacityOf}
 use Rattle.adt.specs.Search.{broken, going}
+use Rattle.adt.specs.Reach.{PathTo}
 use Rattle.index.specs.declared.find.NumberHit.{NumberHit}
 use Rattle.index.specs.declared.find.NumberHit.the-variants.{Broken, Absent, At}
 use Rattle.index.specs.declared.find.LiveHit.{LiveHit}
@@ -27,6 +28,7 @@ pub record FirstAt (w : List ℕ) (n k level link : ℕ) : Type 0 where
   pub few : k ≤ capacityOf w
   pub deep : level ≤ levels
   pub place : link < length w
+  pub path : PathTo w (capacityOf w) k level
 
 pub record None (w : List ℕ) (n : ℕ) : Type 0 where
   pub unbroken : isBroken (numberSearch w n) ≡ false

@@ -1,20 +1,18 @@
 -- `ancestors::ancestor_from` meets its contract. The loop's invariant: from where it has come, the steps that are left lead where all of them
--- lead from the start. Assumes nothing.
+-- lead from the start, and each parent on the way is a cell of the pool. Assumes nothing.
 use mathlib.Core.Path.{_≡_, refl, _∙_}
-use native.Mathlib.Omega.{arith}
 use borrow.Author.Needs.{needs}
-use Rattle.pool.proofs.CapacityLaws.{cell-inPool}
 use Rattle.grant_path.specs.GrantPath.{ancestorFrom, ParentWalk}
-use Rattle.grant_path.proofs.AncestorSteps.{ancestor-here, ancestor-end, ancestor-blank, ancestor-outside, ancestor-parent}
+use Rattle.grant_path.proofs.AncestorSteps.{ancestor-here, ancestor-end, ancestor-parent, walk-cell, walk-parent}
 use Rattle.grant_path.proofs.ancestors.ancestor_from.Statement.{statement}
 use Rattle.grant_path.proofs.ancestors.ancestor_from.Tie as tie
 
 abbrev Inv-loop : tie.InvT-loop
-Inv-loop pool cells cell level steps at₀ above₀ left₀ at above left =
-    ParentWalk pool cells at above × (ancestorFrom pool at above left ≡ ancestorFrom pool cell level steps)
+Inv-loop pool cell level steps at₀ above₀ left₀ at above left =
+    ParentWalk pool at above × (ancestorFrom pool at above left ≡ ancestorFrom pool cell level steps)
 
 abbrev μ-loop : tie.MeasureT-loop
-μ-loop pool cells cell level steps at₀ above₀ left₀ at above left = left
+μ-loop pool cell level steps at₀ above₀ left₀ at above left = left
 
 loop-holds : tie.Need-loop-holds Inv-loop μ-loop
 loop-holds c = (c .before .pre, refl)
@@ -25,33 +23,10 @@ returns c =
     ancestor-end _ _ _ _ (inner .loop-test .taken) (c .if1 .taken) ∙ inner .before .loop .inv .1
 
 field-requires : tie.Need-field-requires Inv-loop μ-loop
-field-requires c κs =
-    let here = c .before .before .loop .inv .0 in
-    cell-inPool (here .sized) (here .some) (here .few)
+field-requires c κs = walk-cell (c .before .before .loop .inv .0)
 
 wide-requires : tie.Need-wide-requires Inv-loop μ-loop
 wide-requires c κs = search needs
-
-returns-2 : tie.Need-returns-2 Inv-loop μ-loop
-returns-2 c =
-    let read = c .before in
-    let one = read .before .before in
-    let inner = one .before in
-    let here = inner .before .loop in
-    ancestor-blank _ _ (here .inv .0 .sized .long) _ (read .wide .ensures .0 ∙ read .before .field .ensures) _ _ (inner .loop-test .taken) (one .if1 .left)
-    (c .if2 .taken)
-    ∙ here .inv .1
-
-returns-3 : tie.Need-returns-3 Inv-loop μ-loop
-returns-3 c =
-    let two = c .before in
-    let read = two .before in
-    let one = read .before .before in
-    let inner = one .before in
-    let here = inner .before .loop in
-    ancestor-outside _ _ (here .inv .0 .sized .long) _ (read .wide .ensures .0 ∙ read .before .field .ensures) _ _ (inner .loop-test .taken) (one .if1 .left)
-    (two .if2 .left) (c .if3 .taken)
-    ∙ here .inv .1
 
 sub-above : tie.Need-sub-above Inv-loop μ-loop
 sub-above c = search needs
@@ -64,30 +39,23 @@ loop-less c = search needs
 
 loop-again : tie.Need-loop-again Inv-loop μ-loop
 loop-again c =
-    let two = c .before in
-    let read = two .before in
-    let one = read .before .before in
+    let one = c .before .before in
     let inner = one .before in
-    let here = inner .before .loop in (
-      record { sized = here .inv .0 .sized; some = omega arith; few = c .if3 .left; deep = omega (arith, here .inv .0 .deep) },
-      ancestor-parent _ _ (here .inv .0 .sized .long) _ (read .wide .ensures .0 ∙ read .before .field .ensures) (two .if2 .left) (c .if3 .left) _ _
-          (inner .loop-test .taken) (one .if1 .left)
-          ∙ here .inv .1,
-    )
+    let here = inner .before .loop .inv in
+    let named = c .wide .ensures .0 ∙ c .before .field .ensures in
+    (walk-parent (here .0) (one .if1 .left) named, ancestor-parent _ _ named _ _ (inner .loop-test .taken) (one .if1 .left) ∙ here .1)
 
-cast-t15 : tie.Need-cast-t15 Inv-loop μ-loop
-cast-t15 c = search needs
+cast-t11 : tie.Need-cast-t11 Inv-loop μ-loop
+cast-t11 c = let cell = walk-cell (c .before .loop .inv .0) in search needs
 
-cast-t16 : tie.Need-cast-t16 Inv-loop μ-loop
-cast-t16 c = search needs
+cast-t12 : tie.Need-cast-t12 Inv-loop μ-loop
+cast-t12 c = search needs
 
 grant-at-requires : tie.Need-grant-at-requires Inv-loop μ-loop
-grant-at-requires c κs =
-    let here = c .before .loop .inv .0 in
-    cell-inPool (here .sized) (here .some) (here .few)
+grant-at-requires c κs = walk-cell (c .before .loop .inv .0)
 
-returns-4 : tie.Need-returns-4 Inv-loop μ-loop
-returns-4 c =
+returns-2 : tie.Need-returns-2 Inv-loop μ-loop
+returns-2 c =
     let end = c .before in
     rw (c .grant-at .ensures) (ancestor-here _ _ _ _ (end .loop-test .left) ∙ end .before .loop .inv .1)
 
@@ -101,13 +69,11 @@ ancestor-from-spec =
     returns
     field-requires
     wide-requires
-    returns-2
-    returns-3
     sub-above
     sub-left
     loop-less
     loop-again
-    cast-t15
-    cast-t16
+    cast-t11
+    cast-t12
     grant-at-requires
-    returns-4)
+    returns-2)
