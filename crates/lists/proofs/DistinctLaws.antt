@@ -24,6 +24,12 @@ pub data Distinct {A : Type 0} : List A → Type 0 where
   distinct_none : Distinct []
   distinct_more : {k : A} {ks : List A} → ¬ Memᴰ k ks → Distinct ks → Distinct (k ∷ ks)
 
+pub distinct_first : {A : Type 0} {k : A} {ks : List A} → Distinct (k ∷ ks) → ¬ Memᴰ k ks
+distinct_first (distinct_more n d) = n
+
+pub distinct_rest : {A : Type 0} {k : A} {ks : List A} → Distinct (k ∷ ks) → Distinct ks
+distinct_rest (distinct_more n d) = d
+
 abbrev pub Upto : ℕ → List ℕ → Type 0
 Upto c ks = (k : ℕ) → Memᴰ k ks → (0 < k) × (k ≤ c)
 
@@ -37,6 +43,7 @@ module _ {A : Type 0} where
   distinct_right (k ∷ a) (distinct_more n d) = distinct_right a d
 
   pub distinct_apart : (a : List A) {b : List A} → Distinct (a ++ b) → (k : A) → Memᴰ k a → Memᴰ k b → ⊥
+  distinct_apart [] {b = b} _ k x4 i = elim x4 [ ]
   distinct_apart (x ∷ a) (distinct_more n d) k (Memᴰ.head e) i = n (Memᴰ.append_right a (Memᴰ.cast (sym e) i))
   distinct_apart (x ∷ a) (distinct_more n d) k (Memᴰ.tail m) i = distinct_apart a d k m i
 

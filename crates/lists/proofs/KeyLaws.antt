@@ -12,14 +12,17 @@ use lib.Dec.{eqb, eqb-suc-zero}
 use lib.ListN.{length}
 use Rattle.lists.specs.Tests.{filter, any}
 use Rattle.lists.proofs.TestLaws.{filter_mem}
-use Rattle.lists.proofs.DistinctLaws.{Distinct, distinct_more}
+use Rattle.lists.proofs.DistinctLaws.{Distinct, distinct_more, distinct_first, distinct_rest}
+
+among : {A K : Type 0} (key : A → K) (y z : A) → key y ≡ key z → (xs : List A) → Distinct (map key xs) → Memᴰ y xs → Memᴰ z xs → y ≡ z
+among key y z q [] d m i = elim m [ ]
+among key y z q (x ∷ xs) d (Memᴰ.head e) (Memᴰ.head f) = e ∙ sym f
+among key y z q (x ∷ xs) d (Memᴰ.head e) (Memᴰ.tail j) = absurd (distinct_first d (Memᴰ.cast (ap key (sym e) ∙ q) (Memᴰ.map key j)))
+among key y z q (x ∷ xs) d (Memᴰ.tail i) (Memᴰ.head f) = absurd (distinct_first d (Memᴰ.cast (ap key (sym f) ∙ sym q) (Memᴰ.map key i)))
+among key y z q (x ∷ xs) d (Memᴰ.tail i) (Memᴰ.tail j) = among key y z q xs (distinct_rest d) i j
 
 pub distinct_key : {A K : Type 0} (key : A → K) {xs : List A} → Distinct (map key xs) → (x y : A) → Memᴰ x xs → Memᴰ y xs → key x ≡ key y → x ≡ y
-distinct_key key {xs = x ∷ xs} (distinct_more n d) y z (Memᴰ.head e) (Memᴰ.head f) q = e ∙ sym f
-distinct_key key {xs = x ∷ xs} (distinct_more n d) y z (Memᴰ.head e) (Memᴰ.tail j) q = absurd (n (Memᴰ.cast (ap key (sym e) ∙ q) (Memᴰ.map key j)))
-distinct_key key {xs = x ∷ xs} (distinct_more n d) y z (Memᴰ.tail i) (Memᴰ.head f) q =
-    absurd (n (Memᴰ.cast (ap key (sym f) ∙ sym q) (Memᴰ.map key i)))
-distinct_key key {xs = x ∷ xs} (distinct_more n d) y z (Memᴰ.tail i) (Memᴰ.tail j) q = distinct_key key d y z i j q
+distinct_key key {xs = xs} d y z m i q = among key y z q xs d m i
 
 pub distinct-keys-filter : {A K : Type 0} (key : A → K) (t : A → Bool) (xs : List A) → Distinct (map key xs) → Distinct (map key (filter t xs))
 unfolding filter
@@ -52,6 +55,7 @@ module _ {A : Type 0} (t : A → Bool) where
 
   pub mem_any : {x : A} {xs : List A} → Memᴰ x xs → t x ≡ true → any t xs ≡ true
   unfolding any
+  mem_any {xs = []} x6 p = elim x6 [ ]
   mem_any {xs = y ∷ ys} (Memᴰ.head e) p = rw (ap t (sym e) ∙ p)
   mem_any {xs = y ∷ ys} (Memᴰ.tail m) p = go (t y) (mem_any m p)
     where

@@ -106,10 +106,13 @@ module _ {A B : Type 0} where
       go (inr i) rest = let r = rest i in (r.0, Memᴰ.tail r.1, r.2)
 
 pub take_mem : {A : Type 0} (n : ℕ) (xs : List A) (x : A) → Memᴰ x (take n xs) → Memᴰ x xs
+take_mem {A = A} zero xs x x3 = elim x3 [ ]
+take_mem {A = A} (suc n) [] x x6 = elim x6 [ ]
 take_mem (suc n) (y ∷ ys) x (Memᴰ.head q) = Memᴰ.head q
 take_mem (suc n) (y ∷ ys) x (Memᴰ.tail m) = Memᴰ.tail (take_mem n ys x m)
 
 pub drop_mem : {A : Type 0} (n : ℕ) (xs : List A) (x : A) → Memᴰ x (drop n xs) → Memᴰ x xs
+drop_mem {A = A} (suc n) [] x m = elim m [ ]
 drop_mem zero xs x m = m
 drop_mem (suc n) (y ∷ ys) x m = Memᴰ.tail (drop_mem n ys x m)
 
@@ -125,6 +128,7 @@ count_from_suc k (suc n) = ap (λ (l : List ℕ). suc k ∷ l) (count_from_suc (
 
 pub count_from_mem : (k n j : ℕ) → Memᴰ j (count_from k n) → (k ≤ j) × (j < k + n)
 unfolding count_from
+count_from_mem k zero j x' = elim x' [ ]
 count_from_mem k (suc n) j (Memᴰ.head q) = omega arith
 count_from_mem k (suc n) j (Memᴰ.tail m) = let both = count_from_mem (suc k) n j m in omega arith
 
@@ -163,7 +167,7 @@ parts_flat_map f w [] zs h = refl
 parts_flat_map {A} {B} f w (x ∷ xs) zs h =
     ap₂ ◌∷◌
     (rw (mul-zero, append_assoc) (take_at (f x) (flat_map f xs ++ zs) w (h x)))
-    (rw (count_from_suc 0 (length xs), map-map) (map_same _ _ (count_from 0 (length xs)) (λ i j. further i) ∙ parts_flat_map f w xs zs h))
+    (rw (count_from_suc 0 (length xs), map-map (λ i. take w (drop (w * i) ((f x ++ flat_map f xs) ++ zs))) suc) (map_same _ _ (count_from 0 (length xs)) (λ i j. further i) ∙ parts_flat_map f w xs zs h))
   where
     further : (i : ℕ) → take w (drop (w * suc i) ((f x ++ flat_map f xs) ++ zs)) ≡ take w (drop (w * i) (flat_map f xs ++ zs))
     further i = rw (mul-suc, add_comm (w * i) w, ← drop-drop, append_assoc, drop_at (f x) (flat_map f xs ++ zs) w (h x))

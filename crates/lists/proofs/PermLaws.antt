@@ -116,13 +116,14 @@ module _ {A : Type 0} where
   -- first in one list, somewhere in the other
   perm_first : {x : A} {xs ys zs : List A} → Perm ys xs → Put x ys zs → Perm zs (x ∷ xs)
   perm_first p put_first = perm_more p put_first
-  perm_first (perm_more p r) (put_later q) = perm_more (perm_first p q) (put_later r)
+  perm_first (perm_more {ys = us} p r) (put_later q) = perm_more (perm_first {xs = us} p q) (put_later r)
 
   pub perm_sym : {xs ys : List A} → Perm xs ys → Perm ys xs
   perm_sym perm_none = perm_none
   perm_sym (perm_more p r) = perm_first (perm_sym p) r
 
   pub perm_mem : {y : A} {xs ys : List A} → Perm xs ys → Memᴰ y xs → Memᴰ y ys
+  perm_mem {y = y} perm_none x4 = elim x4 [ ]
   perm_mem (perm_more p r) (Memᴰ.head e) = Memᴰ.cast e (put_here r)
   perm_mem (perm_more p r) (Memᴰ.tail m) = mem_put r (perm_mem p m)
 

@@ -70,6 +70,7 @@ all_each (suc n) t f = rw (f n (lt-suc_self n)) (all_each n t (λ i h. f i (omeg
 module _ {A : Type 0} (t : A → Bool) where
   pub every_all : (xs : List A) → every t xs ≡ true → (x : A) → Memᴰ x xs → t x ≡ true
   unfolding every
+  every_all [] e x x4 = elim x4 [ ]
   every_all (y ∷ ys) e x (Memᴰ.head q) = ap t q ∙ ((and-eq-true_iff (t y) (every t ys)).0 e).0
   every_all (y ∷ ys) e x (Memᴰ.tail m) = every_all ys ((and-eq-true_iff (t y) (every t ys)).0 e).1 x m
 
@@ -90,6 +91,7 @@ module _ {A : Type 0} (t : A → Bool) where
 
   pub mem_filter : (xs : List A) (x : A) → Memᴰ x xs → t x ≡ true → Memᴰ x (filter t xs)
   unfolding filter
+  mem_filter [] x x4 e = elim x4 [ ]
   mem_filter (y ∷ ys) x (Memᴰ.head q) e = rw (sym (ap t q) ∙ e) (Memᴰ.head q)
   mem_filter (y ∷ ys) x (Memᴰ.tail m) e = go (t y) (mem_filter ys x m e)
     where
