@@ -13,7 +13,7 @@ use pool::cell::store_grant;
 use pool::layout::{FREE, ROOT, field, wide};
 
 // Where a way down ends: at a cause of fault 9, or at the place of the blank link, which is the parent's, 0 for the root's.
-#[derive(Drop)]
+#[derive(Clone, Copy)]
 pub enum Slot {
     Broken,
     At { link: usize, parent: u16 },

@@ -13,7 +13,7 @@ use model::{Box, Choice};
 use pool::cell::bounds_at;
 
 // The cell's point lies in the search range, or list's choice takes its grant for a box.
-#[derive(Drop)]
+#[derive(Clone, Copy)]
 pub enum Predicate {
     InRange,
     Taken { bounds: Box, choice: Choice },

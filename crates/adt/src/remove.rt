@@ -9,7 +9,7 @@ use pool::cell::store_free;
 use pool::layout::{FREE, field, place_of, set_field, wide};
 
 // Where a removal walk ends: at a cause of fault 9, or at the terminal cell and the place of the link it hangs on.
-#[derive(Drop)]
+#[derive(Clone, Copy)]
 pub enum Terminal {
     Broken,
     At { cell: usize, link: usize },

@@ -1,5 +1,7 @@
 // Files read whole into lent bytes, and written whole or not at all: a new file beside the old one, renamed into its place once all its bytes
 // have reached the disk. A failure answers the system's error number, and leaves the old file as it was.
+#![tactic(auto)]
+
 ghost use Rattle.std.specs.Prelude.{◌≡◌, take};
 
 pub mod beside;

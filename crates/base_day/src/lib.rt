@@ -1,4 +1,6 @@
 // The operator's base day, given as an argument of a command. What is no base day is told on standard error, with what to write.
+#![tactic(auto)]
+
 use calendar::Base;
 use calendar::days::is_base;
 use console::arguments::given;

@@ -1,5 +1,7 @@
 // The C interface (include/lg.h): each call is the entry point of its name, and returns its answer packed into one word (packing/specs/Pack).
 // Each is safe on any memory of the lengths that it is given. A refusal leaves everything as it was.
+#![tactic(auto)]
+
 ghost use Rattle.std.specs.Prelude.{◌≡◌};
 ghost use Rattle.model.specs.declared.Choice.TheVariants.{Touching, Holding};
 ghost use Rattle.model.specs.Call.{request};

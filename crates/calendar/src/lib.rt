@@ -1,11 +1,13 @@
 // Days of the Gregorian calendar, and the day and time of a quarter that is counted from a base day (document 01, "The plain book").
 // Nothing is refused.
+#![tactic(auto)]
+
 pub mod days;
 pub mod moment;
 pub mod note;
 
 // A day of the Gregorian calendar.
-#[derive(Drop)]
+#[derive(Clone, Copy)]
 pub struct Date {
     pub year: u16,
     pub month: u8,
@@ -13,7 +15,7 @@ pub struct Date {
 }
 
 // The operator's base day, from which quarters are counted, if it is known.
-#[derive(Drop)]
+#[derive(Clone, Copy)]
 pub enum Base {
     Unknown,
     Day(Date),

@@ -1,5 +1,7 @@
 // The check of a block (document 01, "The grants file"), of byte strings of any length: by the table of powers, a chunk of up to 510 bytes at
 // a time. A block is one chunk: its products are added, and one remainder is taken at the end.
+#![tactic(auto)]
+
 ghost use Rattle.std.specs.Prelude.{◌≡◌, ◌+◌, ◌*◌, ◌^◌, ◌%◌, ◌<◌, ◌≤◌, min, T, length};
 ghost use Rattle.checksum.specs.Checksum.{modulus, base256, checksum};
 ghost use Rattle.checksum.specs.PowerTable.{entries, most_product, is_table, Summable, Shiftable};

@@ -1,4 +1,6 @@
 // The commands of the program of the three levels: each reads its files, calls the proved libraries and prints what they answer.
+#![tactic(auto)]
+
 mod common;
 mod covers;
 pub mod cut;

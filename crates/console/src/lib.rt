@@ -1,4 +1,6 @@
 // Standard input and output, line by line and piece by piece, the arguments that a program was started with, and how it ended.
+#![tactic(auto)]
+
 pub mod arguments;
 pub mod lines;
 pub mod names;

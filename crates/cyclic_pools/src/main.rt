@@ -2,6 +2,8 @@
 // the links form cycles, and a walk ends where a cell names another parent than the cell it came from. On the fourth both links of each cell
 // lead to the next one, every parent is right, and a walk ends where it has met more than C cells. Each call is made on each pool, the slips'
 // as slips, and answers at once; so do write, and match against the file of an empty index.
+#![tactic(auto)]
+
 use file_calls::matching::match_file;
 use file_calls::write::write;
 use geometry::axis::LEVELS;

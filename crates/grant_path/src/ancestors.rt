@@ -10,7 +10,7 @@ use pool::cell::grant_at;
 use pool::layout::{field, wide};
 
 // A cell on the way up, its level, 0 for the root's, and the grant in it; or that the way has ended.
-#[derive(Drop)]
+#[derive(Clone, Copy)]
 pub enum Ancestor {
     Is { cell: u16, level: u16, grant: Grant },
     End,

@@ -1,5 +1,7 @@
 // The program of the three levels, Bank, Head Office and Match (document 00): a command for each job. It reads, prints and names files;
 // what it answers is decided in the libraries, which are proved.
+#![tactic(auto)]
+
 mod file_commands;
 
 use check::same;

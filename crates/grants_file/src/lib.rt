@@ -1,5 +1,7 @@
 // Records, blocks and files of grants (document 01, "The grants file"). What they are stands in specs/.
 // Any bytes are taken as a file, and none are changed but by the functions that write. Nothing here knows of a pool or makes one.
+#![tactic(auto)]
+
 pub mod block;
 pub mod block_defects;
 pub mod bytes;
@@ -15,7 +17,7 @@ pub mod write_block;
 
 // What is wrong in a file, finer than document 01's fault: 10; 12; 11 by its causes; 13 by its causes (`Record`).
 // A record counts from 1 in its block; its number is the grant's, as it stands there. `older` where the mark is that of the form before this one.
-#[derive(Drop)]
+#[derive(Clone, Copy)]
 pub enum Defect {
     Sound,
     Length,
@@ -56,7 +58,7 @@ pub enum Defect {
 
 // Fault 13's causes: a number that is 0 or not above the last, a kind above 1, a box as in fault 2, a rank too low for its doors, doors that the
 // file's don't touch.
-#[derive(Drop)]
+#[derive(Clone, Copy)]
 pub enum RecordFault {
     NumberOrder,
     Kind,
@@ -66,7 +68,7 @@ pub enum RecordFault {
 }
 
 // A block's answer: sound, with the number that the records of the next block must be above; or what is wrong in it.
-#[derive(Drop)]
+#[derive(Clone, Copy)]
 pub enum BlockAnswer {
     Sound { last: u16 },
     Wrong(Defect),

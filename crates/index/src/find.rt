@@ -9,7 +9,7 @@ use model::Fault;
 use pool::layout::{MAX_CAPACITY, capacity, wide};
 
 // A search that met a cause of fault 9, one that hit nothing, or the first hit's cell, its level and the place of its link.
-#[derive(Drop)]
+#[derive(Clone, Copy)]
 pub enum NumberHit {
     Broken,
     Absent,
@@ -48,7 +48,7 @@ pub fn find_number(pool: &[u16], cells: usize, number: u16) -> NumberHit
 }
 
 // The first hit of a number's search in a pool of so many cells; or why there is none.
-#[derive(Drop)]
+#[derive(Clone, Copy)]
 pub enum LiveHit {
     Refused(Fault),
     At {

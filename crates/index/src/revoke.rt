@@ -11,7 +11,7 @@ use model::{Fault, Outcome};
 
 // What revoke is to do, once all walks and tests are done: refuse, or remove a cell that hangs at a link's place by a terminal cell, in a pool of
 // so many cells.
-#[derive(Drop)]
+#[derive(Clone, Copy)]
 pub enum Removal {
     Refused(Fault),
     Of {

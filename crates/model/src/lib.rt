@@ -1,5 +1,6 @@
 // The types of the interface (document 01, "The plain book", "The grants file" and "Faults").
 // specs/ says what they mean: Fault and Answer give document 01's number and values of each case.
+#![tactic(auto)]
 
 pub mod arguments;
 pub mod bounds;
@@ -14,14 +15,14 @@ pub mod seniority;
 pub const MAX_GRANTS: usize = 2048;
 
 // Document 01's kind of a grant: 0 bars, 1 opens.
-#[derive(Drop)]
+#[derive(Clone, Copy)]
 pub enum Kind {
     Bars,
     Opens,
 }
 
 // Document 01's box. Both ends of staff and of doors belong to it; quarter_to is the first quarter that it doesn't cover (document 02, card 2).
-#[derive(Drop)]
+#[derive(Clone, Copy)]
 pub struct Box {
     pub staff_from: u16,
     pub staff_to: u16,
@@ -32,7 +33,7 @@ pub struct Box {
 }
 
 // Document 01's grant.
-#[derive(Drop)]
+#[derive(Clone, Copy)]
 pub struct Grant {
     pub number: u16,
     pub rank: u8,
@@ -41,7 +42,7 @@ pub struct Grant {
 }
 
 // How a grant stands to a box: they don't overlap, they do, or it holds all of the box (document 02, card 4).
-#[derive(Drop)]
+#[derive(Clone, Copy)]
 pub enum Relation {
     Apart,
     Touches,
@@ -49,14 +50,14 @@ pub enum Relation {
 }
 
 // Which grants list lists: those that touch its box, which includes those that hold it, or those that hold it (document 02, card 4).
-#[derive(Drop)]
+#[derive(Clone, Copy)]
 pub enum Choice {
     Touching,
     Holding,
 }
 
 // Document 01's faults 1 to 14, in this order, then document 02's 16, 24 and 25.
-#[derive(Drop)]
+#[derive(Clone, Copy)]
 pub enum Fault {
     BadPool,
     Reversed,
@@ -78,7 +79,7 @@ pub enum Fault {
 }
 
 // What can be wrong in the values of a grant that is asked for: faults 3, 4, 2 and 16, in the order in which they answer.
-#[derive(Drop)]
+#[derive(Clone, Copy)]
 pub enum RequestFault {
     ZeroNumber,
     UnknownKind,
@@ -87,28 +88,28 @@ pub enum RequestFault {
 }
 
 // Whether a request for a grant is right, or what is wrong in it first.
-#[derive(Drop)]
+#[derive(Clone, Copy)]
 pub enum RequestCheck {
     Right,
     Wrong(RequestFault),
 }
 
 // The answer of a call that returns nothing when it is accepted: start, grant, revoke, load, and block read's verdict.
-#[derive(Drop)]
+#[derive(Clone, Copy)]
 pub enum Outcome {
     Done,
     Refused(Fault),
 }
 
 // The answer of list: how many numbers were written.
-#[derive(Drop)]
+#[derive(Clone, Copy)]
 pub enum Listed {
     Count(usize),
     Refused(Fault),
 }
 
 // The answer of decide: opens with the whole grant, barred with the whole grant, or none.
-#[derive(Drop)]
+#[derive(Clone, Copy)]
 pub enum Decision {
     Opens(Grant),
     Barred(Grant),
@@ -117,21 +118,21 @@ pub enum Decision {
 }
 
 // The answer of count: the live grants, and C less live.
-#[derive(Drop)]
+#[derive(Clone, Copy)]
 pub enum Counted {
     Cells { live: usize, free: usize },
     Refused(Fault),
 }
 
 // The answer of write: the file's length.
-#[derive(Drop)]
+#[derive(Clone, Copy)]
 pub enum Written {
     Length(usize),
     Refused(Fault),
 }
 
 // The answer of match: equal, or the lowest grant number at which the pool and the file differ.
-#[derive(Drop)]
+#[derive(Clone, Copy)]
 pub enum Matched {
     Equal,
     Differs(u16),

@@ -1,4 +1,6 @@
 // An opening as a line of text (specs/OpeningRow). Any opening is taken, and nothing is refused; it knows nothing of reading and writing.
+#![tactic(auto)]
+
 ghost use Rattle.std.specs.Prelude.{◌≡◌, ◌≤◌, length, take};
 ghost use Rattle.text.specs.Put.{Put, Counts};
 ghost use Rattle.opening_rows.specs.OpeningRow.{entry_text, opening_row};

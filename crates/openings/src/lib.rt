@@ -1,5 +1,7 @@
 // A door record held against a panel record (document 02, card 13): how many openings agree, and how many are left in each.
 // Records are lent bytes, any bytes are taken, and none are changed. Nothing here knows of a grant.
+#![tactic(auto)]
+
 mod agreeing;
 pub mod compare;
 pub mod defects;
@@ -16,7 +18,7 @@ pub const ENTRY_BYTES: usize = KEY_BYTES;
 pub const MAX_ENTRIES: usize = MAX_KEYS;
 
 // The values of an entry.
-#[derive(Drop)]
+#[derive(Clone, Copy)]
 pub struct Opening {
     pub door: u16,
     pub quarter: u16,
@@ -25,7 +27,7 @@ pub struct Opening {
 
 // What is wrong in a record: it isn't whole entries, it has too many, or the quarter of an entry is below the one before it. Entries are
 // numbered as people count: from 1.
-#[derive(Drop)]
+#[derive(Clone, Copy)]
 pub enum RecordDefect {
     Sound,
     NotWhole {
@@ -42,7 +44,7 @@ pub enum RecordDefect {
 }
 
 // The answer of the comparison: how many entries agree, and how many are left in the door record and in the panel record.
-#[derive(Drop)]
+#[derive(Clone, Copy)]
 pub enum Compared {
     Entries {
         agreeing: usize,
@@ -53,7 +55,7 @@ pub enum Compared {
 }
 
 // An entry that is left, with its number, counted from 1, which is the place behind it; or none is.
-#[derive(Drop)]
+#[derive(Clone, Copy)]
 pub enum LeftEntry {
     At { number: usize, opening: Opening },
     None,

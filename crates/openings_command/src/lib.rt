@@ -1,4 +1,6 @@
 // The command `grants openings`: a door record held against a panel record. What it answers is decided in the library openings, which is proved.
+#![tactic(auto)]
+
 mod compared;
 mod defects;
 mod left;

@@ -1,4 +1,6 @@
 // The packing of an answer into one word (specs/Pack).
+#![tactic(auto)]
+
 ghost use Rattle.std.specs.Prelude.{◌≡◌, [], ◌∷◌, ◌++◌};
 ghost use Rattle.model.specs.Grant.{grant_values};
 ghost use Rattle.model.specs.Fault.{fault_number, fault_values};

@@ -18,7 +18,7 @@ use precedence::overriding::precedence_among;
 use steps::hits::{Hits, find_taken};
 use steps::sorted_cells::sort_cells;
 
-#[derive(Drop)]
+#[derive(Clone, Copy)]
 pub enum Touching {
     Is {
         grant: Grant,

@@ -1,5 +1,7 @@
 // What an attendant types at the panel: a number, a day, a day and time as a quarter, and a whole line as a question.
 // Each reads any text; one of another form is Bad. Nothing here knows of an index, and nothing is refused.
+#![tactic(auto)]
+
 pub mod asking;
 mod covering;
 pub mod dates;
@@ -10,28 +12,28 @@ mod words;
 use calendar::Date;
 
 // A text read as a number.
-#[derive(Drop)]
+#[derive(Clone, Copy)]
 pub enum Number {
     Value(u16),
     Bad,
 }
 
 // A text read as a day.
-#[derive(Drop)]
+#[derive(Clone, Copy)]
 pub enum Day {
     Is(Date),
     Bad,
 }
 
 // Which quarter a day and time is counted as: the one that it lies in, or the first that begins at it or later.
-#[derive(Drop)]
+#[derive(Clone, Copy)]
 pub enum Rounding {
     Down,
     Up,
 }
 
 // A text read as the quarter of a day and time.
-#[derive(Drop)]
+#[derive(Clone, Copy)]
 pub enum Quarter {
     Is(u16),
     Bad,
@@ -40,7 +42,7 @@ pub enum Quarter {
 // What a line asks: who may open a door in a quarter, whether one of the staff may, which grants cover one of the staff at a door over all quarters
 // from `from` to before `to`, the next lines of an answer, the help, or the end.
 // NoBase: it ends in a day and time, and no base day is known.
-#[derive(Drop)]
+#[derive(Clone, Copy)]
 pub enum Question {
     Who {
         door: u16,

@@ -1,5 +1,7 @@
 // Lines of slips (document 01, "Marked cases"), one after another, on one pool: a line read as a call, its answer printed as a line, a
 // journal's line replayed, and the slip program as one function.
+#![tactic(auto)]
+
 ghost use Rattle.std.specs.Prelude.{take};
 ghost use Rattle.text.specs.Put.{Counts};
 ghost use Rattle.calls.specs.Calls.{words_step};

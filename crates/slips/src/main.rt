@@ -1,5 +1,7 @@
 // The slip program, on standard input and output: an index of 2,048 cells, a slip a line, an answer a line (slip_session::program). It takes
 // no argument.
+#![tactic(auto)]
+
 use console::arguments::given;
 use console::output::warn;
 use console::status::{Ending, tell};

@@ -9,7 +9,7 @@ use geometry::region::Region;
 use model::{Box, Choice};
 
 // A search that met a cause of fault 9, or how many hits it left.
-#[derive(Drop)]
+#[derive(Clone, Copy)]
 pub enum Hits {
     Broken,
     Found(usize),

@@ -15,7 +15,7 @@ use pool::Field;
 use pool::layout::{FREE, field, wide};
 
 // What grant is to do, once all walks and tests are done: refuse, or hang the free head's cell at the place of a blank link, the parent's.
-#[derive(Drop)]
+#[derive(Clone, Copy)]
 pub enum Insertion {
     Refused(Fault),
     At {
