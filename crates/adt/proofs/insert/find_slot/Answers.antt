@@ -1,0 +1,82 @@
+use lib.Dec.{lit≤}
+use Rattle.adt.proofs.DescentSteps.{descent_end, descent_blank, descent_above, descent_full, descent_parent, descent_next}
+use Rattle.adt.specs.Insert.{descend}
+use Rattle.pool.proofs.CapacityLaws.{capacity_of-pool_length}
+use native.Mathlib.Omega.{arith}
+use mathlib.Core.Path.{sym, ap, subst, ◌∙◌}
+use lib.ListN.{set}
+use Rattle.geometry.specs.Region.{Shape}
+use Rattle.geometry.proofs.RegionLaws.{root_shape, half-shape}
+use Rattle.geometry.proofs.HalfLaws.{set_half_of}
+use Prim.Native.Nat.{◌≤◌}
+use borrow.Author.Rules.{rules}
+use Rattle.adt.proofs.insert.find_slot.Goals as goal
+
+pub loop-below-init : goal.loop-below-init
+unfolding descend
+loop-below-init c =
+    let long = c.requires.long in
+    let root = c.root_region-region.ensures in
+    (lit≤ tt, omega (arith, long), search rules, subst Shape (sym root) root_shape, rw (root, capacity_of-pool_length _ _ long))
+
+pub returns-then-k-eq0 : goal.returns-then-k-eq0
+returns-then-k-eq0 c =
+    let read = c in
+    let inner = read in
+    descent_blank _ _ _ _ _ _ _ _ _ inner.loop-below-test.true read.wide-k.ensures.0 c.if-k-eq0.true ∙ inner.loop-below.invariant.4
+
+pub returns-then-cells-k : goal.returns-then-cells-k
+returns-then-cells-k c =
+    let one = c in
+    let read = one in
+    let inner = read in
+    descent_above _ _ _ _ _ _ _ _ _ inner.loop-below-test.true read.wide-k.ensures.0 one.if-k-eq0.false c.if-cells-k.true
+    ∙ inner.loop-below.invariant.4
+
+pub returns-then-cells-met : goal.returns-then-cells-met
+returns-then-cells-met c =
+    let two = c in
+    let one = two in
+    let read = one in
+    let inner = read in
+    descent_full _ _ _ _ _ _ _ _ _ inner.loop-below-test.true read.wide-k.ensures.0 one.if-k-eq0.false two.if-cells-k.false c.if-cells-met.true
+    ∙ inner.loop-below.invariant.4
+
+pub returns-then-field-parent : goal.returns-then-field-parent
+returns-then-field-parent c =
+    let three = c in
+    let two = three in
+    let one = two in
+    let read = one in
+    let inner = read in
+    descent_parent _ _ _ _ _ _ _ _ _ inner.loop-below-test.true read.wide-k.ensures.0 one.if-k-eq0.false two.if-cells-k.false three.if-cells-met.false
+    (λ e. c.if-field-parent.true (c.field.ensures ∙ e))
+    ∙ inner.loop-below.invariant.4
+
+pub loop-below-preserved : goal.loop-below-preserved
+loop-below-preserved c =
+    let halved = c in
+    let sided = halved in
+    let axed = sided in
+    let four = axed in
+    let three = four in
+    let two = three in
+    let one = two in
+    let read = one in
+    let inner = read in
+    let l = inner.loop-below in
+    let start = inner in
+    let p = start.requires in
+    let axis = axed.axis_of-axis.ensures in
+    let half = ap (set l.region axed.axis_of-axis.result) halved.half_of_lem.ensures ∙ set_half_of _ l.region _ l.invariant.3 axis.1 in (
+      omega (arith, l.invariant.0),
+      omega (arith, c.link_place-link.ensures.1, p.long, two.if-cells-k.false),
+      omega (arith, three.if-cells-met.false),
+      subst Shape (sym half) (half-shape _ l.region _ l.invariant.3 axis.1),
+      descent_next start.args.pool.now _ _ _ _ _ _ _ _ inner.loop-below-test.true read.wide-k.ensures.0 one.if-k-eq0.false two.if-cells-k.false three.if-cells-met.false
+          (sym four.field.ensures ∙ four.if-field-parent.false) axis.0 sided.side_of-side.ensures half (sym read.wide-k.ensures.0) c.link_place-link.ensures.0
+          ∙ l.invariant.4,
+    )
+
+pub returns : goal.returns
+returns c = descent_end _ _ _ _ _ _ _ _ c.loop-below-test.false ∙ c.loop-below.invariant.4

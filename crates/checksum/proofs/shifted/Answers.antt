@@ -1,0 +1,19 @@
+-- `shifted` meets its contract. Assumes nothing.
+use Prim.Native.Nat.{◌^◌}
+use native.Mathlib.Omega.{arith}
+use Rattle.checksum.proofs.ChecksumLaws.{mul_mod}
+use Rattle.checksum.proofs.SumLaws.{shift_lt}
+use Rattle.checksum.proofs.shifted.Goals as goal
+
+pub overflow_mul-result : goal.overflow_mul-result
+overflow_mul-result c =
+    let start = c in
+    let small = shift_lt start.args.remainder c.power.result start.args.places start.requires.reduced c.power.ensures in
+    record { fits = omega (arith, small) }
+
+pub returns : goal.returns
+returns c =
+    let start = c in (
+      rw c.power.ensures (mul_mod start.args.remainder (256 ^ start.args.places)),
+      shift_lt start.args.remainder c.power.result start.args.places start.requires.reduced c.power.ensures,
+    )

@@ -1,0 +1,17 @@
+-- `sum_of_products` meets its contract. The invariant: the sum is that of the bytes passed, with the others behind them. Assumes nothing.
+use Prim.Native.Nat.{◌+◌, ◌*◌, ◌^◌, ◌-◌, ◌%◌, ◌≤◌}
+use mathlib.Core.Path.{◌≡◌}
+use lib.ListN.{length, take}
+use Rattle.checksum.specs.Checksum.{modulus, base256}
+use Rattle.checksum.specs.PowerTable.{most_product}
+use Rattle.checksum.proofs.sum_of_products.Given as goal
+
+abbrev pub invariant-loop-at : goal.invariant-loop-at
+invariant-loop-at l =
+    (l.at ≤ length l.bytes)
+    × (l.exponent + l.at ≡ length l.bytes + l.behind)
+    × (l.sum ≤ l.at * most_product)
+    × (l.sum % modulus ≡ base256 0 (take l.at l.bytes) * 256 ^ l.exponent % modulus)
+
+abbrev pub decreases-loop-at : goal.decreases-loop-at
+decreases-loop-at l = length l.bytes - l.at

@@ -1,0 +1,29 @@
+use mathlib.Core.Path.{refl, sym, ◌∙◌}
+use borrow.Author.Tests.{lt-leb, le-leb}
+use Rattle.lists.proofs.EachLaws.{each_fails, each-passes, each-end, and_false}
+use Rattle.geometry.specs.Region.{meets}
+use borrow.Author.Rules.{rules}
+use Rattle.geometry.proofs.region.meets_range.Goals as goal
+
+pub loop-n-init : goal.loop-n-init
+unfolding meets
+loop-n-init c = (search rules, refl)
+
+pub returns-then-region-n : goal.returns-then-region-n
+returns-then-region-n c =
+    let i = c in
+    sym (i.loop-n.invariant.1 ∙ each_fails _ _ i.loop-n-test.true (rw (lt-leb _ _ c.if-region-n.true)))
+
+pub returns-then-range-n : goal.returns-then-range-n
+returns-then-range-n c =
+    let i = c in
+    sym (i.loop-n.invariant.1 ∙ each_fails _ _ i.loop-n-test.true (simp (lt-leb _ _ c.if-range-n.true, and_false)))
+
+pub loop-n-preserved : goal.loop-n-preserved
+loop-n-preserved c =
+    let i = c in
+    let first = c.if-region-n.false in
+    (search rules, i.loop-n.invariant.1 ∙ each-passes _ _ i.loop-n-test.true (rw (le-leb _ _ first, le-leb _ _ c.if-range-n.false)))
+
+pub returns : goal.returns
+returns c = sym (c.loop-n.invariant.1 ∙ each-end _ _ c.loop-n-test.false)

@@ -1,0 +1,27 @@
+-- `ancestors::ancestor_at` meets its contract: the number's first hit, and the way up from it. Assumes nothing.
+use mathlib.Core.Path.{subst}
+use Rattle.index.specs.NumberSearch.{LiveFound}
+use Rattle.grant_path.proofs.AncestorSteps.{path-refused, path-starts, path_done}
+use Rattle.grant_path.proofs.ancestors.ancestor_at.Goals as goal
+
+pub ancestor_from-requires : goal.ancestor_from-requires
+ancestor_from-requires c =
+    let found = c in
+    let a = found.args in
+    let at = subst (LiveFound a.pool.now a.number) c.hit-in-At-1.given.1 found.find_live-hit.ensures in
+    path-starts a.pool.now a.number a.i _ _ _ _ at
+
+pub returns-in-Refused : goal.returns-in-Refused
+returns-in-Refused c =
+    let found = c in
+    let a = found.args in
+    let at = subst (LiveFound a.pool.now a.number) c.hit-1.given.1 found.find_live-hit.ensures in
+    path-refused a.pool.now a.number a.i _ at
+
+pub returns-in-At : goal.returns-in-At
+returns-in-At c =
+    let told = c in
+    let found = told in
+    let a = found.args in
+    let at = subst (LiveFound a.pool.now a.number) told.hit-in-At-1.given.1 found.find_live-hit.ensures in
+    path_done a.pool.now a.number a.i _ _ _ _ at c.ancestor_from.ensures

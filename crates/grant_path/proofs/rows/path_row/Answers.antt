@@ -1,0 +1,10 @@
+-- `rows::path_row` meets its contract: piece by piece. Assumes nothing.
+use native.Mathlib.Omega.{arith}
+use Rattle.text.proofs.PutLaws.{put_then, put_line}
+use Rattle.grant_path.proofs.rows.path_row.Goals as goal
+
+pub returns : goal.returns
+returns c =
+    let columns = c in
+    put_line (put_then columns.put_columns-next.ensures.0 c.put_row.ensures.0)
+    (omega (arith, columns.put_columns-next.ensures.1, c.put_row.ensures.1, c.put_row.auto.out))

@@ -1,0 +1,50 @@
+-- `compare::compare_openings` meets its contract: each return is one case of its order line. Assumes nothing.
+use mathlib.Core.Path.{◌≡◌, ◌∙◌}
+use mathlib.Core.Bool.{false, ◌||◌}
+use Rattle.lists.proofs.OrLaws.{or_false_iff}
+use Rattle.openings.specs.Record.{wrong_size}
+use Rattle.openings.proofs.DefectLaws.{told_length, told_order, wrong_size-sized}
+use Rattle.openings.proofs.CompareLaws.{compare_wrong_size, compare-unordered, compare-accepted}
+use Rattle.openings.proofs.compare.compare_openings.Goals as goal
+
+pub returns-then-either : goal.returns-then-either
+returns-then-either c =
+    let sizes = c in
+    let found = sizes in
+    compare_wrong_size _ _
+    (told_length _ _ found.record_defect-in_door.ensures found.record_defect-in_panel.ensures c.either.ensures c.if-either.true
+    sizes.is_length.ensures c.is_length-2.ensures)
+
+-- both sizes were tested
+sized : (c : goal.Else-either) → let a = c.args in
+    (wrong_size a.door.now || wrong_size a.panel.now) ≡ false
+sized c =
+    let sizes = c in
+    let found = sizes in
+    told_length _ _ found.record_defect-in_door.ensures found.record_defect-in_panel.ensures c.either.ensures c.if-either.false
+    sizes.is_length.ensures c.is_length-2.ensures
+
+pub returns-then-either-2 : goal.returns-then-either-2
+returns-then-either-2 c =
+    let orders = c in
+    let right = orders in
+    let found = right in
+    compare-unordered _ _ (sized right)
+    (told_order _ _ found.record_defect-in_door.ensures found.record_defect-in_panel.ensures c.either-2.ensures c.if-either-2.true
+    (sized right) orders.is_order.ensures c.is_order-2.ensures)
+
+pub compare_sound-requires : goal.compare_sound-requires
+compare_sound-requires c =
+    let right = (or_false_iff _ _).0 (sized c) in
+    (wrong_size-sized _ right.0, wrong_size-sized _ right.1)
+
+pub returns : goal.returns
+returns c =
+    let tested = c in
+    let orders = tested in
+    let right = orders in
+    let found = right in
+    c.compare_sound.ensures
+    ∙ compare-accepted _ _ (sized right)
+    (told_order _ _ found.record_defect-in_door.ensures found.record_defect-in_panel.ensures tested.either-2.ensures tested.if-either-2.false
+    (sized right) orders.is_order.ensures tested.is_order-2.ensures)

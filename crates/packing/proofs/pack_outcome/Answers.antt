@@ -1,0 +1,9 @@
+-- `pack_outcome` meets its contract: a case for each variant. Assumes nothing.
+
+use Rattle.packing.proofs.pack_outcome.Goals as goal
+
+pub returns-in-Done : goal.returns-in-Done
+returns-in-Done c = rw c.enum_told-1.given.1 c.word.ensures
+
+pub returns-in-Refused : goal.returns-in-Refused
+returns-in-Refused c = rw c.outcome-1.given.1 c.pack_fault.ensures

@@ -1,0 +1,7 @@
+-- `rows::heads_row` meets its contract. Assumes nothing.
+use native.Mathlib.Omega.{arith}
+use Rattle.text.proofs.PutLaws.{put_line}
+use Rattle.panel.proofs.rows.heads_row.Goals as goal
+
+pub returns : goal.returns
+returns c = put_line c.put_heads.ensures.0 (omega (arith, c.put_heads.ensures.1, c.put_heads.auto.out))

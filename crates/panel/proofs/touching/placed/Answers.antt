@@ -1,0 +1,19 @@
+-- `touching::placed` meets its contract. Assumes nothing.
+use Rattle.steps.proofs.HitsLaws.{cell_hit}
+use Rattle.panel.proofs.PlacedLaws.{placed_end, placed_at}
+use Rattle.panel.proofs.touching.placed.Goals as goal
+
+pub returns-then-found-i : goal.returns-then-found-i
+returns-then-found-i c =
+    let start = c in
+    placed_end _ _ start.requires start.args.i c.if-found-i.true
+
+pub grant_at-grant-requires : goal.grant_at-grant-requires
+grant_at-grant-requires c = cell_hit c.requires c.if-found-i.false c.wide.ensures.0
+
+pub returns : goal.returns
+returns c =
+    let found = c in
+    let some = found in
+    let start = some in
+    placed_at _ _ start.requires start.args.i some.if-found-i.false found.wide.ensures.0 found.grant_at-grant.ensures c.precedence_among-precedence.ensures

@@ -1,0 +1,28 @@
+-- `fresh::make_fresh` meets its contract: the header, then the cells. Assumes nothing.
+use Rattle.pool.proofs.FreshSteps.{fresh-whole, header_stored}
+use Rattle.pool.proofs.FreshLaws.{length-fresh_pool}
+use lib.ListN.{length, length-set}
+use native.Mathlib.Omega.{arith}
+use mathlib.Core.Path.{sym, ap, ◌∙◌}
+use Rattle.pool.proofs.fresh.make_fresh.Goals as goal
+
+pub bounds-pool-1 : goal.bounds-pool-1
+bounds-pool-1 c = simp length-set (omega (arith, c.requires.long))
+
+pub bounds-pool-2 : goal.bounds-pool-2
+bounds-pool-2 c = simp length-set (omega (arith, c.requires.long))
+
+pub shape_of-pool : goal.shape_of-pool
+shape_of-pool c =
+    let start = c in
+    let e = c.free_all.ensures in
+    let header = header_stored start.args.pool.now start.args.cells (omega (arith, start.requires.long)) in
+    let whole = fresh-whole start.args.cells c.free_all.new.pool (e.1 ∙ header) e.0 in
+    ap length whole ∙ length-fresh_pool start.args.cells ∙ sym start.requires.long
+
+pub returns : goal.returns
+returns c =
+    let start = c in
+    let e = c.free_all.ensures in
+    let header = header_stored start.args.pool.now start.args.cells (omega (arith, start.requires.long)) in
+    fresh-whole start.args.cells _ (e.1 ∙ header) e.0

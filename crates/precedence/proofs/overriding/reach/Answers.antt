@@ -1,0 +1,30 @@
+use Prim.Native.Nat.{◌-◌}
+use mathlib.Core.Path.{refl}
+use native.Mathlib.Omega.{arith}
+use borrow.Author.Rules.{rules}
+use Rattle.steps.proofs.HitsLaws.{cell_hit}
+use Rattle.precedence.proofs.HitScanLaws.{reach_passed, reach-end}
+use Rattle.precedence.proofs.overriding.reach.Goals as goal
+
+pub loop-i-init : goal.loop-i-init
+loop-i-init c = (search rules, refl)
+
+pub grant_at-requires : goal.grant_at-requires
+grant_at-requires c = cell_hit c.requires c.loop-i-test.true c.wide.ensures.0
+
+pub loop-i-preserved : goal.loop-i-preserved
+loop-i-preserved c =
+    let found = c in
+    let turn = found in
+    let start = turn in
+    let l = turn.loop-i in (
+      omega (arith, turn.loop-i-test.true),
+      reach_passed _ _ start.requires turn.loop-i-test.true found.wide.ensures.0 found.grant_at.ensures start.args.g
+          start.args.staff l.best l.invariant.1 c.further-best.ensures,
+    )
+
+pub returns : goal.returns
+returns c =
+    let start = c in
+    let loop = c.loop-i in
+    reach-end _ _ start.requires start.args.g start.args.staff loop.best loop.i loop.invariant.0 c.loop-i-test.false loop.invariant.1

@@ -1,0 +1,39 @@
+use Prim.Native.Nat.{◌-◌}
+use mathlib.Core.Path.{sym, ◌∙◌}
+use mathlib.Core.Logic.{⊎_elim}
+use native.Mathlib.Omega.{arith}
+use Rattle.steps.proofs.HitsLaws.{cell_hit}
+use Rattle.queries.proofs.DecideLaws.{decides-none, decides_over, decides_under, decides-end}
+use Rattle.queries.proofs.decide.decide_among.Goals as goal
+
+pub returns-then-found-eq0 : goal.returns-then-found-eq0
+returns-then-found-eq0 c = decides-none _ _ c.requires c.if-found-eq0.true
+
+pub grant_at-deciding-requires : goal.grant_at-deciding-requires
+grant_at-deciding-requires c = cell_hit c.requires (omega arith) c.wide.ensures.0
+
+pub grant_at-other-requires : goal.grant_at-other-requires
+grant_at-other-requires c =
+    let turn = c in
+    cell_hit turn.requires turn.loop-i-test.true c.wide-in-loop-i.ensures.0
+
+pub loop-i-preserved : goal.loop-i-preserved
+loop-i-preserved c =
+    let found = c in
+    let turn = found in
+    let loop = turn.loop-i in
+    let cells = turn.requires in
+    let o = c.outranks.ensures in
+    let cell = found.wide-in-loop-i.ensures.0 in
+    let over = decides_over _ _ cells turn.loop-i-test.true cell found.grant_at-other.ensures loop.deciding loop.invariant.1 in
+    let under = decides_under _ _ cells turn.loop-i-test.true cell found.grant_at-other.ensures loop.deciding loop.invariant.1 in
+    (omega arith, ⊎_elim (λ w. rw w.1 (over (sym o ∙ w.0.taken))) (λ w. rw w.1 (under (sym o ∙ w.0.left))) c.if-outranks.branch)
+
+pub returns : goal.returns
+returns c =
+    let loop = c.loop-i in
+    let first = c in
+    let cells = first.requires in
+    let some = first.if-found-eq0.false in
+    c.decision_of.ensures
+    ∙ decides-end _ _ cells loop.i (omega arith) some first.wide.ensures.0 first.grant_at-deciding.ensures loop.deciding loop.invariant.1

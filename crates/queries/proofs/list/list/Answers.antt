@@ -1,0 +1,65 @@
+-- `list::list` meets its contract, test by test. Assumes nothing.
+use Rattle.model.proofs.QuarterLaws.{forward_quarters}
+use Rattle.calls.proofs.RefusalSteps.{pool_taken}
+use Rattle.steps.proofs.HitsLaws.{found-cells, cells-part}
+use Rattle.queries.proofs.ListSteps.{list_bad, list-reversed, list-broken, list_short, list_done}
+use mathlib.Core.Path.{refl, sym, ◌∙◌}
+use lib.Seq.{length-take-le}
+use Rattle.queries.proofs.list.list.Goals as goal
+
+pub returns-then-cells-eq0 : goal.returns-then-cells-eq0
+returns-then-cells-eq0 c =
+    let start = c in
+    list_bad start.args.pool.now start.args.bounds start.args.choice start.args.list.now c.capacity-cells.ensures c.if-cells-eq0.true
+
+pub returns-then-is_reversed : goal.returns-then-is_reversed
+returns-then-is_reversed c =
+    let tested = c in
+    let a = tested.args in
+    list-reversed a.pool.now a.bounds a.choice a.list.now tested.capacity-cells.ensures tested.if-cells-eq0.false
+    tested.is_reversed.ensures c.if-is_reversed.true
+
+pub find_taken-requires : goal.find_taken-requires
+find_taken-requires c =
+    let forward = c in
+    let tested = forward in
+    let t = pool_taken _ tested.capacity-cells.ensures tested.if-cells-eq0.false in
+    record { sized = t.sized; some = forward_quarters _ (sym tested.is_reversed.ensures ∙ forward.if-is_reversed.false); room = refl }
+
+pub returns-in_default : goal.returns-in_default
+returns-in_default c =
+    let searched = c in
+    let forward = searched in
+    let tested = forward in
+    let a = tested.args in
+    list-broken a.pool.now a.bounds a.choice a.list.now tested.capacity-cells.ensures tested.if-cells-eq0.false
+    tested.is_reversed.ensures forward.if-is_reversed.false _ searched.find_taken.ensures c.enum_told-1.given.1
+
+pub returns-then-list-found : goal.returns-then-list-found
+returns-then-list-found c =
+    let searched = c in
+    let forward = searched in
+    let tested = forward in
+    let a = tested.args in
+    list_short a.pool.now a.bounds a.choice a.list.now tested.capacity-cells.ensures tested.if-cells-eq0.false
+    tested.is_reversed.ensures forward.if-is_reversed.false _ searched.find_taken.ensures c.found-1.given.1 c.if-list-found.true
+
+pub slice_bounds-write_numbers-end-2 : goal.slice_bounds-write_numbers-end-2
+slice_bounds-write_numbers-end-2 c = sym (length-take-le _ _ c.if-list-found.false)
+
+pub write_numbers-requires : goal.write_numbers-requires
+write_numbers-requires c =
+    let found = c in
+    let cells = found-cells _ _ _ _ found.find_taken.ensures found.found-1.given.1 in
+    cells-part cells _ c.if-list-found.false
+
+pub returns : goal.returns
+returns c =
+    let room = c in
+    let searched = room in
+    let forward = searched in
+    let tested = forward in
+    let a = tested.args in
+    list_done a.pool.now a.bounds a.choice a.list.now tested.capacity-cells.ensures tested.if-cells-eq0.false
+    tested.is_reversed.ensures forward.if-is_reversed.false _ searched.find_taken.ensures room.found-1.given.1
+    room.if-list-found.false c.write_numbers.ensures

@@ -1,0 +1,11 @@
+-- `list::write_numbers` meets its contract: the numbers are copied, then sorted. Assumes nothing.
+use Prim.Native.Nat.{ℕ}
+use mathlib.Core.Path.{ap, ◌∙◌}
+use mathlib.Core.List.{List}
+use Rattle.lists.specs.Sort.{sort_by}
+use Rattle.queries.proofs.list.write_numbers.Goals as goal
+
+pub returns : goal.returns
+returns c =
+    let copied = c in
+    c.sort_numbers.ensures ∙ ap (λ (xs : List ℕ). sort_by (λ (n : ℕ). n) xs) copied.copy_numbers.ensures

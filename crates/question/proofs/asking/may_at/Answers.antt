@@ -1,0 +1,14 @@
+-- `asking::may_at` meets its contract. Assumes nothing.
+use borrow.Author.Tests.{not-true, not-false}
+use mathlib.Core.Path.{sym, ◌∙◌}
+use Rattle.question.specs.Question.{may_at}
+use Rattle.question.proofs.QuestionLaws.{question_bad, question_good, may_at-taken}
+use Rattle.question.proofs.asking.may_at.Goals as goal
+
+pub returns-then-not-n : goal.returns-then-not-n
+returns-then-not-n c = let n = c.read_numbers-n in question_bad (may_at _) n.result 2 _ n.ensures (not-true _ c.if-not-n.true)
+
+pub returns : goal.returns
+returns c =
+    let n = c.read_numbers-n in
+    sym (may_at-taken _ n.result.values) ∙ question_good (may_at _) n.result 2 _ n.ensures (not-false _ c.if-not-n.false)
