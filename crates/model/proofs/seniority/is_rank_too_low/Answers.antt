@@ -7,4 +7,4 @@ pub returns-then-rank-ge-SENIOR_RANK : goal.returns-then-rank-ge-SENIOR_RANK
 returns-then-rank-ge-SENIOR_RANK c = rw (le-ltb _ _ c.if-rank-ge-SENIOR_RANK.true)
 
 pub returns : goal.returns
-returns c = let a = c.args in rw (lt-ltb _ _ c.if-rank-ge-SENIOR_RANK.false) (wide_ends a.door-from a.door-to)
+returns c = let a = c.args in rw (lt-ltb _ _ c.if-rank-ge-SENIOR_RANK.false) (wide_ends a.door_from a.door_to)
