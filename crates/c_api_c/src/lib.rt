@@ -17,7 +17,7 @@ ghost use Rattle.c_api.specs.Contract.{PacksPool, PacksLent, pack_part, box_of};
 pub extern "C" fn lg_start(pool: &mut [u16]) -> u64
     ensures { PacksPool result pool.new (start_call pool.old) }
 {
-    pack_outcome(start(pool))
+    c_api::lg_start(pool)
 }
 
 // Refuses 1, 3, 4, 2, 16, 9, 5 and 6, in this order.
@@ -37,15 +37,18 @@ pub extern "C" fn lg_grant(
     ensures { PacksPool result pool.new
         (grant_call pool.old (request number rank kind (box_of staff_from staff_to door_from door_to quarter_from quarter_to))) }
 {
-    let bounds = Box {
+    c_api::lg_grant(
+        pool,
+        number,
+        rank,
+        kind,
         staff_from,
         staff_to,
         door_from,
         door_to,
         quarter_from,
         quarter_to,
-    };
-    pack_outcome(grant(pool, number, rank, kind, bounds))
+    )
 }
 
 // Refuses 1, 3, 9 and 7, in this order.
@@ -53,7 +56,7 @@ pub extern "C" fn lg_grant(
 pub extern "C" fn lg_revoke(pool: &mut [u16], number: u16) -> u64
     ensures { PacksPool result pool.new (revoke_call pool.old number) }
 {
-    pack_outcome(revoke(pool, number))
+    c_api::lg_revoke(pool, number)
 }
 
 // Lists the grants that touch the box. Refuses 1, 2, 9 and 8, in this order. Elements past the numbers stay.
@@ -71,15 +74,16 @@ pub extern "C" fn lg_list(
     ensures { PacksLent pack result list.new
         (list_call pool.now (box_of staff_from staff_to door_from door_to quarter_from quarter_to) Touching list.old) }
 {
-    let bounds = Box {
+    c_api::lg_list(
+        pool,
         staff_from,
         staff_to,
         door_from,
         door_to,
         quarter_from,
         quarter_to,
-    };
-    pack_listed(queries::list::list(pool, bounds, Choice::Touching, list))
+        list,
+    )
 }
 
 // Lists the grants that hold the box. Refuses 1, 2, 9 and 8, in this order. Elements past the numbers stay.
@@ -97,15 +101,16 @@ pub extern "C" fn lg_list_holding(
     ensures { PacksLent pack result list.new
         (list_call pool.now (box_of staff_from staff_to door_from door_to quarter_from quarter_to) Holding list.old) }
 {
-    let bounds = Box {
+    c_api::lg_list_holding(
+        pool,
         staff_from,
         staff_to,
         door_from,
         door_to,
         quarter_from,
         quarter_to,
-    };
-    pack_listed(queries::list::list(pool, bounds, Choice::Holding, list))
+        list,
+    )
 }
 
 // Refuses 1 and 9, in this order. `out` stays as it was unless the answer is opens or barred.
@@ -119,7 +124,7 @@ pub extern "C" fn lg_decide(
 ) -> u64
     ensures { PacksOut result out.new out.old (decide_call pool.now staff door quarter).answer }
 {
-    pack_decision(decide(pool, staff, door, quarter), out)
+    c_api::lg_decide(pool, staff, door, quarter, out)
 }
 
 // Refuses 1 and 9, in this order.
@@ -127,7 +132,7 @@ pub extern "C" fn lg_decide(
 pub extern "C" fn lg_count(pool: &[u16]) -> u64
     ensures { result ≡ pack_pair (count_call pool.now).answer }
 {
-    pack_counted(count(pool))
+    c_api::lg_count(pool)
 }
 
 // Refuses 1, 2, 9 and 14, in this order. Bytes past the file stay.
@@ -136,7 +141,7 @@ pub extern "C" fn lg_write(pool: &[u16], door_from: u16, door_to: u16, bytes: &m
     ensures { PacksLent pack_length result bytes.new
         (write_call pool.now (record { from = door_from; to = door_to }) bytes.old) }
 {
-    pack_written(file_calls::write::write(pool, door_from, door_to, bytes))
+    c_api::lg_write(pool, door_from, door_to, bytes)
 }
 
 // Refuses 1, the file's faults (10, then per block rising 12, 11, 13) and 6, in this order.
@@ -144,7 +149,7 @@ pub extern "C" fn lg_write(pool: &[u16], door_from: u16, door_to: u16, bytes: &m
 pub extern "C" fn lg_load(pool: &mut [u16], file: &[u8]) -> u64
     ensures { PacksPool result pool.new (load_call pool.old file.now) }
 {
-    pack_outcome(load(pool, file))
+    c_api::lg_load(pool, file)
 }
 
 // Refuses 1, the file's faults (as lg_load) and 9, in this order.
@@ -152,7 +157,7 @@ pub extern "C" fn lg_load(pool: &mut [u16], file: &[u8]) -> u64
 pub extern "C" fn lg_match(pool: &[u16], file: &[u8]) -> u64
     ensures { result ≡ pack (match_call pool.now file.now).answer }
 {
-    pack_matched(match_file(pool, file))
+    c_api::lg_match(pool, file)
 }
 
 // The verdict on one block: refuses 10, 12 and 11, in this order.
@@ -160,7 +165,7 @@ pub extern "C" fn lg_match(pool: &[u16], file: &[u8]) -> u64
 pub extern "C" fn lg_block(file: &[u8], block: u64) -> u64
     ensures { result ≡ pack (block_call file.now block).answer }
 {
-    pack_outcome(block_verdict(file, block))
+    c_api::lg_block(file, block)
 }
 
 // The part of the file that an accepted block's records occupy; refuses nothing.
@@ -168,14 +173,7 @@ pub extern "C" fn lg_block(file: &[u8], block: u64) -> u64
 pub extern "C" fn lg_block_part(file: &[u8], block: u64) -> u64
     ensures { result ≡ pack_part file.now block }
 {
-    let part = block_part(file, block);
-    let size = part.len();
-    if size == 0 {
-        return word(0, 0, 0);
-    }
-    // A block number past what `b` holds is in no file; its remainder keeps the product in range.
-    let start = BLOCK_BYTES as u64 * (block % B_VALUES) + RECORDS_PLACE as u64;
-    word(0, size as u64, start)
+    c_api::lg_block_part(file, block)
 }
 
 // Refuses 24, tested on both records, and then 25.
