@@ -1,5 +1,5 @@
 // The C interface (include/lg.h): each call is the entry point of its name, and returns its answer packed into one word (packing/specs/Pack).
-// Each is safe on any memory of the lengths that it is given. A refusal leaves everything as it was.
+// Each is safe on any memory of the lengths that it is given. A refusal leaves everything as it was. The static library c_api_c exports them.
 #![tactic(auto)]
 
 ghost use Rattle.std.specs.Prelude.{◌≡◌};
@@ -31,16 +31,14 @@ use queries::count::count;
 use queries::decide::decide;
 
 // Refuses 1.
-#[unsafe(no_mangle)]
-pub extern "C" fn lg_start(pool: &mut [u16]) -> u64
+pub fn lg_start(pool: &mut [u16]) -> u64
     ensures { PacksPool result pool.new (start_call pool.old) }
 {
     pack_outcome(start(pool))
 }
 
 // Refuses 1, 3, 4, 2, 16, 9, 5 and 6, in this order.
-#[unsafe(no_mangle)]
-pub extern "C" fn lg_grant(
+pub fn lg_grant(
     pool: &mut [u16],
     number: u16,
     rank: u8,
@@ -67,16 +65,14 @@ pub extern "C" fn lg_grant(
 }
 
 // Refuses 1, 3, 9 and 7, in this order.
-#[unsafe(no_mangle)]
-pub extern "C" fn lg_revoke(pool: &mut [u16], number: u16) -> u64
+pub fn lg_revoke(pool: &mut [u16], number: u16) -> u64
     ensures { PacksPool result pool.new (revoke_call pool.old number) }
 {
     pack_outcome(revoke(pool, number))
 }
 
 // Lists the grants that touch the box. Refuses 1, 2, 9 and 8, in this order. Elements past the numbers stay.
-#[unsafe(no_mangle)]
-pub extern "C" fn lg_list(
+pub fn lg_list(
     pool: &[u16],
     staff_from: u16,
     staff_to: u16,
@@ -101,8 +97,7 @@ pub extern "C" fn lg_list(
 }
 
 // Lists the grants that hold the box. Refuses 1, 2, 9 and 8, in this order. Elements past the numbers stay.
-#[unsafe(no_mangle)]
-pub extern "C" fn lg_list_holding(
+pub fn lg_list_holding(
     pool: &[u16],
     staff_from: u16,
     staff_to: u16,
@@ -127,30 +122,21 @@ pub extern "C" fn lg_list_holding(
 }
 
 // Refuses 1 and 9, in this order. `out` stays as it was unless the answer is opens or barred.
-#[unsafe(no_mangle)]
-pub extern "C" fn lg_decide(
-    pool: &[u16],
-    staff: u16,
-    door: u16,
-    quarter: u16,
-    out: &mut [u16; 10],
-) -> u64
+pub fn lg_decide(pool: &[u16], staff: u16, door: u16, quarter: u16, out: &mut [u16; 10]) -> u64
     ensures { PacksOut result out.new out.old (decide_call pool.now staff door quarter).answer }
 {
     pack_decision(decide(pool, staff, door, quarter), out)
 }
 
 // Refuses 1 and 9, in this order.
-#[unsafe(no_mangle)]
-pub extern "C" fn lg_count(pool: &[u16]) -> u64
+pub fn lg_count(pool: &[u16]) -> u64
     ensures { result ≡ pack_pair (count_call pool.now).answer }
 {
     pack_counted(count(pool))
 }
 
 // Refuses 1, 2, 9 and 14, in this order. Bytes past the file stay.
-#[unsafe(no_mangle)]
-pub extern "C" fn lg_write(pool: &[u16], door_from: u16, door_to: u16, bytes: &mut [u8]) -> u64
+pub fn lg_write(pool: &[u16], door_from: u16, door_to: u16, bytes: &mut [u8]) -> u64
     ensures { PacksLent pack_length result bytes.new
         (write_call pool.now (record { from = door_from; to = door_to }) bytes.old) }
 {
@@ -158,32 +144,28 @@ pub extern "C" fn lg_write(pool: &[u16], door_from: u16, door_to: u16, bytes: &m
 }
 
 // Refuses 1, the file's faults (10, then per block rising 12, 11, 13) and 6, in this order.
-#[unsafe(no_mangle)]
-pub extern "C" fn lg_load(pool: &mut [u16], file: &[u8]) -> u64
+pub fn lg_load(pool: &mut [u16], file: &[u8]) -> u64
     ensures { PacksPool result pool.new (load_call pool.old file.now) }
 {
     pack_outcome(load(pool, file))
 }
 
 // Refuses 1, the file's faults (as lg_load) and 9, in this order.
-#[unsafe(no_mangle)]
-pub extern "C" fn lg_match(pool: &[u16], file: &[u8]) -> u64
+pub fn lg_match(pool: &[u16], file: &[u8]) -> u64
     ensures { result ≡ pack (match_call pool.now file.now).answer }
 {
     pack_matched(match_file(pool, file))
 }
 
 // The verdict on one block: refuses 10, 12 and 11, in this order.
-#[unsafe(no_mangle)]
-pub extern "C" fn lg_block(file: &[u8], block: u64) -> u64
+pub fn lg_block(file: &[u8], block: u64) -> u64
     ensures { result ≡ pack (block_call file.now block).answer }
 {
     pack_outcome(block_verdict(file, block))
 }
 
 // The part of the file that an accepted block's records occupy; refuses nothing.
-#[unsafe(no_mangle)]
-pub extern "C" fn lg_block_part(file: &[u8], block: u64) -> u64
+pub fn lg_block_part(file: &[u8], block: u64) -> u64
     ensures { result ≡ pack_part file.now block }
 {
     let part = block_part(file, block);
@@ -197,8 +179,7 @@ pub extern "C" fn lg_block_part(file: &[u8], block: u64) -> u64
 }
 
 // Refuses 24, tested on both records, and then 25.
-#[unsafe(no_mangle)]
-pub extern "C" fn lg_compare_openings(door_record: &[u8], panel_record: &[u8]) -> u64
+pub fn lg_compare_openings(door_record: &[u8], panel_record: &[u8]) -> u64
     ensures { result ≡ pack_three (compare_call door_record.now panel_record.now).answer }
 {
     pack_compared(compare_openings(door_record, panel_record))

@@ -1,7 +1,7 @@
 -- A grant as a point on seven axes (document 01, "Boxes as points"), and the points of a range.
 --   point_of g             its coordinates: the three froms, the three tos, the number
 --   inside_on q p a, inside q p   the point lies in the range on the axis, and on every axis; both ends count
---   inRange q g           the grant's point lies in the range
+--   in_range q g           the grant's point lies in the range
 -- Assumes nothing: these are definitions.
 use Rattle.std.specs.Prelude.{ℕ, Bool, ◌&&◌, List, [], ◌∷◌, leb, get_or}
 use Rattle.lists.specs.Tests.{each}

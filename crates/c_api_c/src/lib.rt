@@ -1,0 +1,185 @@
+// The C interface's exports (include/lg.h): each is c_api's function of its name, with the same contract.
+#![tactic(auto)]
+
+ghost use Rattle.std.specs.Prelude.{◌≡◌};
+ghost use Rattle.model.specs.declared.Choice.TheVariants.{Touching, Holding};
+ghost use Rattle.model.specs.Call.{request};
+ghost use Rattle.calls.specs.Calls.{start_call, grant_call, revoke_call, list_call, decide_call, count_call};
+ghost use Rattle.block_read.specs.BlockRead.{block_call};
+ghost use Rattle.calls.specs.FileCalls.{write_call, load_call, match_call};
+ghost use Rattle.openings.specs.Compare.{compare_call};
+ghost use Rattle.packing.specs.Pack.{pack, pack_pair, pack_length, pack_three};
+ghost use Rattle.packing.specs.Decision.{PacksOut};
+ghost use Rattle.c_api.specs.Contract.{PacksPool, PacksLent, pack_part, box_of};
+
+// Refuses 1.
+#[unsafe(no_mangle)]
+pub extern "C" fn lg_start(pool: &mut [u16]) -> u64
+    ensures { PacksPool result pool.new (start_call pool.old) }
+{
+    c_api::lg_start(pool)
+}
+
+// Refuses 1, 3, 4, 2, 16, 9, 5 and 6, in this order.
+#[unsafe(no_mangle)]
+pub extern "C" fn lg_grant(
+    pool: &mut [u16],
+    number: u16,
+    rank: u8,
+    kind: u8,
+    staff_from: u16,
+    staff_to: u16,
+    door_from: u16,
+    door_to: u16,
+    quarter_from: u16,
+    quarter_to: u16,
+) -> u64
+    ensures { PacksPool result pool.new
+        (grant_call pool.old (request number rank kind (box_of staff_from staff_to door_from door_to quarter_from quarter_to))) }
+{
+    c_api::lg_grant(
+        pool,
+        number,
+        rank,
+        kind,
+        staff_from,
+        staff_to,
+        door_from,
+        door_to,
+        quarter_from,
+        quarter_to,
+    )
+}
+
+// Refuses 1, 3, 9 and 7, in this order.
+#[unsafe(no_mangle)]
+pub extern "C" fn lg_revoke(pool: &mut [u16], number: u16) -> u64
+    ensures { PacksPool result pool.new (revoke_call pool.old number) }
+{
+    c_api::lg_revoke(pool, number)
+}
+
+// Lists the grants that touch the box. Refuses 1, 2, 9 and 8, in this order. Elements past the numbers stay.
+#[unsafe(no_mangle)]
+pub extern "C" fn lg_list(
+    pool: &[u16],
+    staff_from: u16,
+    staff_to: u16,
+    door_from: u16,
+    door_to: u16,
+    quarter_from: u16,
+    quarter_to: u16,
+    list: &mut [u16],
+) -> u64
+    ensures { PacksLent pack result list.new
+        (list_call pool.now (box_of staff_from staff_to door_from door_to quarter_from quarter_to) Touching list.old) }
+{
+    c_api::lg_list(
+        pool,
+        staff_from,
+        staff_to,
+        door_from,
+        door_to,
+        quarter_from,
+        quarter_to,
+        list,
+    )
+}
+
+// Lists the grants that hold the box. Refuses 1, 2, 9 and 8, in this order. Elements past the numbers stay.
+#[unsafe(no_mangle)]
+pub extern "C" fn lg_list_holding(
+    pool: &[u16],
+    staff_from: u16,
+    staff_to: u16,
+    door_from: u16,
+    door_to: u16,
+    quarter_from: u16,
+    quarter_to: u16,
+    list: &mut [u16],
+) -> u64
+    ensures { PacksLent pack result list.new
+        (list_call pool.now (box_of staff_from staff_to door_from door_to quarter_from quarter_to) Holding list.old) }
+{
+    c_api::lg_list_holding(
+        pool,
+        staff_from,
+        staff_to,
+        door_from,
+        door_to,
+        quarter_from,
+        quarter_to,
+        list,
+    )
+}
+
+// Refuses 1 and 9, in this order. `out` stays as it was unless the answer is opens or barred.
+#[unsafe(no_mangle)]
+pub extern "C" fn lg_decide(
+    pool: &[u16],
+    staff: u16,
+    door: u16,
+    quarter: u16,
+    out: &mut [u16; 10],
+) -> u64
+    ensures { PacksOut result out.new out.old (decide_call pool.now staff door quarter).answer }
+{
+    c_api::lg_decide(pool, staff, door, quarter, out)
+}
+
+// Refuses 1 and 9, in this order.
+#[unsafe(no_mangle)]
+pub extern "C" fn lg_count(pool: &[u16]) -> u64
+    ensures { result ≡ pack_pair (count_call pool.now).answer }
+{
+    c_api::lg_count(pool)
+}
+
+// Refuses 1, 2, 9 and 14, in this order. Bytes past the file stay.
+#[unsafe(no_mangle)]
+pub extern "C" fn lg_write(pool: &[u16], door_from: u16, door_to: u16, bytes: &mut [u8]) -> u64
+    ensures { PacksLent pack_length result bytes.new
+        (write_call pool.now (record { from = door_from; to = door_to }) bytes.old) }
+{
+    c_api::lg_write(pool, door_from, door_to, bytes)
+}
+
+// Refuses 1, the file's faults (10, then per block rising 12, 11, 13) and 6, in this order.
+#[unsafe(no_mangle)]
+pub extern "C" fn lg_load(pool: &mut [u16], file: &[u8]) -> u64
+    ensures { PacksPool result pool.new (load_call pool.old file.now) }
+{
+    c_api::lg_load(pool, file)
+}
+
+// Refuses 1, the file's faults (as lg_load) and 9, in this order.
+#[unsafe(no_mangle)]
+pub extern "C" fn lg_match(pool: &[u16], file: &[u8]) -> u64
+    ensures { result ≡ pack (match_call pool.now file.now).answer }
+{
+    c_api::lg_match(pool, file)
+}
+
+// The verdict on one block: refuses 10, 12 and 11, in this order.
+#[unsafe(no_mangle)]
+pub extern "C" fn lg_block(file: &[u8], block: u64) -> u64
+    ensures { result ≡ pack (block_call file.now block).answer }
+{
+    c_api::lg_block(file, block)
+}
+
+// The part of the file that an accepted block's records occupy; refuses nothing.
+#[unsafe(no_mangle)]
+pub extern "C" fn lg_block_part(file: &[u8], block: u64) -> u64
+    ensures { result ≡ pack_part file.now block }
+{
+    c_api::lg_block_part(file, block)
+}
+
+// Refuses 24, tested on both records, and then 25.
+#[unsafe(no_mangle)]
+pub extern "C" fn lg_compare_openings(door_record: &[u8], panel_record: &[u8]) -> u64
+    ensures { result ≡ pack_three (compare_call door_record.now panel_record.now).answer }
+{
+    c_api::lg_compare_openings(door_record, panel_record)
+}
