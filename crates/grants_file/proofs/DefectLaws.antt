@@ -103,6 +103,7 @@ clear_append cs ds =
 module _ {A : Type 0} (g : A → List DefectCause) where
   each_clear : (xs : List A) → Clear (flat_map g xs) → (x : A) → Memᴰ x xs → Clear (g x)
   unfolding flat_map
+  each_clear [] e x x4 = elim x4 [ ]
   each_clear (y ∷ ys) e x (Memᴰ.head q) = rw q ((clear_append (g y) (flat_map g ys)).0 e).0
   each_clear (y ∷ ys) e x (Memᴰ.tail m) = each_clear ys ((clear_append (g y) (flat_map g ys)).0 e).1 x m
 

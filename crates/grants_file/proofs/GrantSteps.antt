@@ -84,7 +84,7 @@ module _ (f : List ℕ) (a : Accepted f) where
     in_block =
         let few : r < count_in (total_in f) (suc q) = omega arith in
         let place : length (count_from 0 (count_in (total_in f) (suc q))) ≡ count_in (total_in f) (suc q) = length-count_from 0 _ in
-        ListN.get_d_map decode_record (records_of (block_at f (suc q)) (count_in (total_in f) (suc q))) r []
+        ListN.get_or-map decode_record (records_of (block_at f (suc q)) (count_in (total_in f) (suc q))) r []
         ∙ ap decode_record (get_d_map _ (count_from 0 (count_in (total_in f) (suc q))) r 0 [] (omega (arith, place)))
         ∙ ap (λ (k : ℕ). decode_record (record_at (block_at f (suc q)) (records_place + record_bytes * k))) (get_d_count_from 0 _ r 0 few ∙ zero-add r)
 

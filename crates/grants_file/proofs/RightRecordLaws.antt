@@ -97,6 +97,7 @@ module _ (doors : Interval) where
 
   pub right_kinds : (last : ℕ) (rs : List (List ℕ)) → RightRecords doors last rs → (r : List ℕ) → Memᴰ r rs → kind_byte r ≤ 1
   unfolding RightRecords
+  right_kinds last [] h r x'' = elim x'' [ ]
   right_kinds last (s ∷ ss) h r (Memᴰ.head q) = rw q (request-kind (record_request s) h.0.faultless)
   right_kinds last (s ∷ ss) h r (Memᴰ.tail m) = right_kinds (record_number s) ss h.1 r m
 
@@ -135,6 +136,7 @@ module _ (doors : Interval) where
 
   each_right : (last : ℕ) (gs : List Grant) → RightRecords doors last (map encode_record gs) → (g : Grant) → Memᴰ g gs → RightGrant doors g
   unfolding RightRecords
+  each_right last [] h g x'' = elim x'' [ ]
   each_right last (x ∷ xs) h g (Memᴰ.head q) = rw q ((record_encode last x).0 h.0).1
   each_right last (x ∷ xs) h g (Memᴰ.tail m) = each_right x.number xs (rw (← record_number_encode x) h.1) g m
 

@@ -20,6 +20,7 @@ use Rattle.model.specs.Grant.{touches}
 use Rattle.grants_file.specs.FileSets.{Ascending, ascending-none, ascending_more, FileSet, SameGrants, InOneAlone}
 
 pub ascending-above : {last : ℕ} {gs : List Grant} → Ascending last gs → (g : Grant) → Memᴰ g gs → last < g.number
+ascending-above (ascending-none {last = last}) g x4 = elim x4 [ ]
 ascending-above {last} (ascending_more h a) g (Memᴰ.head e) = subst (λ (x : Grant). last < x.number) (sym e) h
 ascending-above (ascending_more h a) g (Memᴰ.tail m) = omega (arith, ascending-above a g m)
 

@@ -7,23 +7,23 @@ use Rattle.block_read.proofs.part.block_part.Goals as goal
 pub returns-in_default : goal.returns-in_default
 returns-in_default c =
     let told = c in
-    let answer = rw told.enum_told-in_default-1.given.1 at told.block_verdict-verdict.ensures in
-    occupies_as (sym (part-refused _ _ told.enum_told-in_default-1.given.0.0 answer))
+    let answer = rw told.in_default.is at told.block_verdict-verdict.ensures in
+    occupies_as (sym (part-refused _ _ _ answer))
     (record { memory = refl; place = omega arith; long = refl; bytes = refl })
 
 pub returns-then-block-eq0 : goal.returns-then-block-eq0
 returns-then-block-eq0 c =
     let told = c in
-    let answer = rw told.enum_told-1.given.1 at told.block_verdict-verdict.ensures in
+    let answer = rw told.in-Done.is at told.block_verdict-verdict.ensures in
     occupies_as (sym (part_header _ _ answer c.if-block-eq0.true))
     (record { memory = refl; place = omega arith; long = refl; bytes = refl })
 
 pub records_part-requires : goal.records_part-requires
-records_part-requires c = let done = rw c.enum_told-1.given.1 at c.block_verdict-verdict.ensures in
+records_part-requires c = let done = rw c.in-Done.is at c.block_verdict-verdict.ensures in
     (done_in _ _ done, done_count _ _ done c.if-block-eq0.false)
 
 pub returns : goal.returns
 returns c =
     let told = c in
-    let answer = rw told.enum_told-1.given.1 at told.block_verdict-verdict.ensures in
+    let answer = rw told.in-Done.is at told.block_verdict-verdict.ensures in
     occupies_as (sym (part_records _ _ answer c.if-block-eq0.false)) c.records_part.ensures

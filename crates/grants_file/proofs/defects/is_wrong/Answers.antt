@@ -6,8 +6,8 @@ use Rattle.grants_file.proofs.defects.is_wrong.Goals as goal
 
 pub returns-in-Done : goal.returns-in-Done
 returns-in-Done c = let answer = c in
-    outcome_done (defect_fault answer.args.defect) (sym answer.outcome_of-outcome.ensures ∙ c.enum_told-1.given.1)
+    outcome_done (defect_fault answer.args.defect) (sym answer.outcome_of-outcome.ensures ∙ c.in-Done.is)
 
 pub returns-in-Refused : goal.returns-in-Refused
 returns-in-Refused c = let answer = c in
-    outcome_refused (defect_fault answer.args.defect) _ (sym answer.outcome_of-outcome.ensures ∙ c.enum_told-in-Refused-1.given.1)
+    outcome_refused (defect_fault answer.args.defect) _ (sym answer.outcome_of-outcome.ensures ∙ c.in-Refused.is)

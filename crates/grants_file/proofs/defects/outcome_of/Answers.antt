@@ -3,31 +3,31 @@
 use Rattle.grants_file.proofs.defects.outcome_of.Goals as goal
 
 pub returns-in-Length : goal.returns-in-Length
-returns-in-Length c = rw c.enum_told-in-Length-1.given.1
+returns-in-Length c = rw c.in-Length.is
 
 pub returns-in-Checksum : goal.returns-in-Checksum
-returns-in-Checksum c = rw c.defect-1.given.1
+returns-in-Checksum c = rw c.in-Checksum.is
 
 pub returns-in-Mark : goal.returns-in-Mark
-returns-in-Mark c = rw c.defect-in-Mark-1.given.1
+returns-in-Mark c = rw c.in-Mark.is
 
 pub returns-in-BlockNumber : goal.returns-in-BlockNumber
-returns-in-BlockNumber c = rw c.defect-in-BlockNumber-1.given.1
+returns-in-BlockNumber c = rw c.in-BlockNumber.is
 
 pub returns-in-TooManyGrants : goal.returns-in-TooManyGrants
-returns-in-TooManyGrants c = rw c.enum_told-in-TooManyGrants-1.given.1
+returns-in-TooManyGrants c = rw c.in-TooManyGrants.is
 
 pub returns-in-BlockCount : goal.returns-in-BlockCount
-returns-in-BlockCount c = rw c.enum_told-in-BlockCount-1.given.1
+returns-in-BlockCount c = rw c.in-BlockCount.is
 
 pub returns-in-RecordCount : goal.returns-in-RecordCount
-returns-in-RecordCount c = rw c.defect-in-RecordCount-1.given.1
+returns-in-RecordCount c = rw c.in-RecordCount.is
 
 pub returns-in-DoorOrder : goal.returns-in-DoorOrder
-returns-in-DoorOrder c = rw c.enum_told-in-DoorOrder-1.given.1
+returns-in-DoorOrder c = rw c.in-DoorOrder.is
 
 pub returns-in-Padding : goal.returns-in-Padding
-returns-in-Padding c = rw c.defect-in-Padding-1.given.1
+returns-in-Padding c = rw c.in-Padding.is
 
 pub returns-in-Record : goal.returns-in-Record
-returns-in-Record c = rw c.defect-in-Record-1.given.1
+returns-in-Record c = rw c.in-Record.is

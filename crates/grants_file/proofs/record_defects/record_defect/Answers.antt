@@ -18,7 +18,7 @@ returns-then-overlap_on c =
     let above = checked in
     let read = above in
     record_sound _ _ _ _ read.args.block.now _ read.decode_record-g.ensures above.if-g-last.false checked.check_request-check.ensures
-    told.enum_told-1.given.1 (sym c.if-overlap_on.true ∙ touch.overlap_on.ensures)
+    told.in-Right.is (sym c.if-overlap_on.true ∙ touch.overlap_on.ensures)
 
 pub returns-in-Wrong : goal.returns-in-Wrong
 returns-in-Wrong c =
@@ -27,7 +27,7 @@ returns-in-Wrong c =
     let above = checked in
     let read = above in
     record_wrong _ _ _ _ read.args.block.now _ read.decode_record-g.ensures above.if-g-last.false checked.check_request-check.ensures
-    told.check-1.given.1 c.record_fault.ensures
+    told.in-Wrong.is c.record_fault.ensures
 
 pub returns-else-overlap_on : goal.returns-else-overlap_on
 returns-else-overlap_on c =
@@ -37,4 +37,4 @@ returns-else-overlap_on c =
     let above = checked in
     let read = above in
     record_doors _ _ _ _ read.args.block.now _ read.decode_record-g.ensures above.if-g-last.false checked.check_request-check.ensures
-    told.enum_told-1.given.1 (sym c.if-overlap_on.false ∙ touch.overlap_on.ensures)
+    told.in-Right.is (sym c.if-overlap_on.false ∙ touch.overlap_on.ensures)
