@@ -16,6 +16,7 @@ use Rattle.model.specs.declared.Grant.{Grant}
 use Rattle.geometry.specs.declared.Side.TheVariants.{Left}
 use Rattle.pool.specs.Layout.{field_of}
 use Rattle.pool.proofs.FreeCellLaws.{cleared_words}
+use Rattle.adt.specs.Node.{link_place}
 use Rattle.adt.specs.Reach.{child_of, free_at, IsFree}
 use Rattle.adt.specs.FreeHead.{TakesFreeHead, BecomesFreeHead}
 use Rattle.adt.proofs.Spells.{Tree, cells_of, FreeChain, chain_end, chain_more}
@@ -32,8 +33,8 @@ chain_free_at {w} zero m i s e chain_end = ap (free_at w) (let j : i ≡ m = ome
 chain_free_at {w} zero m i s e (chain_more pos le x) = ap (free_at w) (let j : i ≡ m = omega arith in j) ∙ e
 chain_free_at {w} {c} (suc n) m i s e chain_end =
     let next : free_at w (suc m) ≡ 0 = ap (λ (j : ℕ). child_of w j Left) e in
-    chain_free_at {c = c} n (suc m) i (omega arith) next chain_end
-chain_free_at {w} (suc n) m i s e (chain_more pos le x) = chain_free_at n (suc m) i (omega arith) (free-next w m e pos) x
+    chain_free_at {w = w} {c = c} n (suc m) i (omega arith) next chain_end
+chain_free_at {w} {k = k} (suc n) m i s e (chain_more pos le x) = chain_free_at {w = w} {k = get_or w (link_place k Left) 0} n (suc m) i (omega arith) (free-next w m e pos) x
 
 module _ {w : List ℕ} {c : ℕ} {t : Tree} {ks : List ℕ} (h : Linked w c t ks) where
   pub linked_free_at : (n : ℕ) → free_at w n ≡ get_or ks n 0

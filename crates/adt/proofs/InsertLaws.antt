@@ -89,7 +89,7 @@ descend_from-blank {w} {c} {link = link} {parent = parent} p (suc n) from at met
     let on : cond (leb k c && ltb met c && is_parent w from k) (descend_from w c p n k (link_place k s) (half s g a) (suc met)) broken ≡ blank_at link parent =
     rw (e, ne_eqb k 0 (omega arith)) at found in
     blank_child s
-    (descend_from-blank p n k (link_place k s) (suc met) (spells_child s (spells_node pos le j x y)) refl (half-shape s g a shape lt) (inside-half g a shape lt p i)
+    (descend_from-blank {k = get_or w (link_place k s) 0} p n k (link_place k s) (suc met) (spells_child s (spells_node pos le j x y)) refl (half-shape s g a shape lt) (inside-half g a shape lt p i)
     (descent_on (leb k c && ltb met c && is_parent w from k) (descend_from w c p n k (link_place k s) (half s g a) (suc met)) link parent on))
 
 pub descend-blank : {w : List ℕ} {c : ℕ} {t : Tree} {link parent : ℕ} (p : List ℕ) → capacity_of w ≡ c → Spells w c (suc levels) root_region (get_or w root_place 0) t

@@ -68,7 +68,7 @@ loop-below-preserved c =
     let start = inner in
     let p = start.requires in
     let axis = axed.axis_of-axis.ensures in
-    let half = ap (set l.region axed.axis_of-axis.result) halved.half_of_lem.ensures ∙ set_half_of _ l.region _ l.invariant.3 axis.1 in (
+    let half = ap (set l.region axed.axis_of-axis.result) halved.half_of.ensures ∙ set_half_of _ l.region _ l.invariant.3 axis.1 in (
       omega (arith, l.invariant.0),
       omega (arith, c.link_place-link.ensures.1, p.long, two.if-cells-k.false),
       omega (arith, three.if-cells-met.false),

@@ -6,8 +6,8 @@ use Rattle.adt.proofs.predicates.words_of.Goals as goal
 
 pub returns-in-InRange : goal.returns-in-InRange
 unfolding predicate_in
-returns-in-InRange c = rw c.enum_told-1.given.1 refl
+returns-in-InRange c = rw c.in-InRange.is refl
 
 pub returns-in-Taken : goal.returns-in-Taken
 unfolding predicate_in
-returns-in-Taken c = rw (c.predicate-1.given.1, ne_eqb _ _ c.choice_number.ensures.1, c.choice_number.ensures.0) refl
+returns-in-Taken c = rw (c.in-Taken.is, ne_eqb _ _ c.choice_number.ensures.not_result, c.choice_number.ensures.result_value) refl

@@ -4,7 +4,6 @@ use Rattle.geometry.proofs.RegionLaws.{root_shape}
 use Rattle.geometry.specs.declared.Side.TheVariants.{Left}
 use Rattle.geometry.specs.Region.{Region, Shape, meets}
 use mathlib.Core.Path.{sym, ap, subst, ◌∙◌}
-use borrow.Author.Tests.{not-true, not-false}
 use Rattle.adt.proofs.search.search.Goals as goal
 
 pub returns-then-root-eq0 : goal.returns-then-root-eq0
@@ -19,7 +18,7 @@ returns-then-not-meets_range c =
     let read = rooted in
     let start = read in
     let root = ap (λ (g : Region). meets g start.args.range.now) (sym rooted.root_region-region.ensures) in
-    let m = root ∙ sym asked.meets_range.ensures ∙ not-true _ c.if-not-meets_range.true-raw in
+    let m = root ∙ sym asked.meets_range.ensures ∙ c.if-not-meets_range.true in
     search-apart _ _ start.requires.0 _ read.wide-root.ensures.0 rooted.if-root-eq0.false m
 
 pub enter-requires : goal.enter-requires
@@ -31,7 +30,7 @@ enter-requires c =
     let start = read in
     search_entering start.requires.0 read.wide-root.ensures.0 rooted.if-root-eq0.false start.requires.1
     (subst Shape (sym rooted.root_region-region.ensures) root_shape)
-    (sym asked.meets_range.ensures ∙ not-false _ two.if-not-meets_range.false-raw) Left
+    (sym asked.meets_range.ensures ∙ two.if-not-meets_range.false) Left
 
 pub returns : goal.returns
 returns c =

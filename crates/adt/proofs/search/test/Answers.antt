@@ -1,7 +1,6 @@
 -- `search::test` meets its contract, case by case. Assumes nothing.
-use mathlib.Core.Path.{refl, sym, ap, ◌∙◌}
+use mathlib.Core.Path.{refl, sym, ◌∙◌}
 use Rattle.adt.proofs.SearchSteps.{test_full, test_outside, test_later, test_first}
-use mathlib.Core.Bool.{not, not-not}
 use Rattle.adt.specs.Search.{Spot}
 use Rattle.adt.proofs.search.test.Goals as goal
 
@@ -19,7 +18,7 @@ returns-then-not-is_hit c =
     let start = one in
     let a = start.args in
     let here : Spot = record { level = a.level; link = a.link } in
-    let outside = sym c.is_hit.ensures ∙ sym (not-not _) ∙ ap not c.if-not-is_hit.true-raw in
+    let outside = sym c.is_hit.ensures ∙ c.if-not-is_hit.true in
     test_outside a.pool.now _ a.range.now _ here a.k a.hits.now start.requires.ready.few
     _ one.if-counters-met.false a.counters.now start.requires.ready.counted refl outside
 
@@ -30,7 +29,7 @@ returns-then-found-gt0 c =
     let start = one in
     let a = start.args in
     let here : Spot = record { level = a.level; link = a.link } in
-    let hit = sym tested.is_hit.ensures ∙ sym (not-not _) ∙ ap not c.if-not-is_hit.false-raw in
+    let hit = sym tested.is_hit.ensures ∙ c.if-not-is_hit.false in
     test_later a.pool.now _ a.range.now _ here a.k a.hits.now start.requires.ready.few
     _ one.if-counters-met.false _ hit a.counters.now start.requires.ready.counted refl refl c.if-found-gt0.true
 
@@ -41,6 +40,6 @@ returns c =
     let start = one in
     let a = start.args in
     let here : Spot = record { level = a.level; link = a.link } in
-    let hit = sym tested.is_hit.ensures ∙ sym (not-not _) ∙ ap not c.if-not-is_hit.false-raw in
+    let hit = sym tested.is_hit.ensures ∙ c.if-not-is_hit.false in
     test_first a.pool.now _ a.range.now _ here a.k a.hits.now start.requires.ready.few
     _ one.if-counters-met.false _ hit a.counters.now start.requires.ready.counted refl refl c.if-found-gt0.false

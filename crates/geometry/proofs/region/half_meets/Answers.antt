@@ -6,9 +6,9 @@ use Rattle.geometry.proofs.region.half_meets.Goals as goal
 pub returns-in-Left : goal.returns-in-Left
 returns-in-Left c =
     let p = c.requires in
-    rw (c.enum_told-1.given.1, c.lower_end.ensures) (sym (meets-left p))
+    rw (c.in-Left.is, c.lower_end.ensures) (sym (meets-left p))
 
 pub returns-in-Right : goal.returns-in-Right
 returns-in-Right c =
     let p = c.requires in
-    rw (c.enum_told-in-Right-1.given.1, c.upper_start.ensures) (sym (meets_right p))
+    rw (c.in-Right.is, c.upper_start.ensures) (sym (meets_right p))

@@ -3,7 +3,7 @@
 use Rattle.geometry.proofs.region.half_of.Goals as goal
 
 pub returns-in-Left : goal.returns-in-Left
-returns-in-Left c = rw (c.enum_told-1.given.1, c.lower_end.ensures)
+returns-in-Left c = rw (c.in-Left.is, c.lower_end.ensures)
 
 pub returns-in-Right : goal.returns-in-Right
-returns-in-Right c = rw (c.enum_told-in-Right-1.given.1, c.upper_start.ensures)
+returns-in-Right c = rw (c.in-Right.is, c.upper_start.ensures)
