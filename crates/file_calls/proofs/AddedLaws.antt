@@ -11,6 +11,7 @@ use mathlib.Core.List.{List, [], ◌∷◌, ◌++◌, map, map-append, append-ni
 use native.Mathlib.Omega.{arith}
 use lib.ListN.{length}
 use borrow.Author.Tests.{not-false, eqb-true}
+use Rattle.lists.specs.Sort.{insert_by}
 use Rattle.lists.proofs.DistinctLaws.{Distinct, distinct_more}
 use Rattle.lists.proofs.PermLaws.{put_append_right, put_perm, length_put, perm_map, perm_distinct}
 use Rattle.lists.proofs.SortLaws.{put_insert_by, rises_distinct}
@@ -20,7 +21,7 @@ use Rattle.model.specs.Call.{request_of}
 use Rattle.model.specs.Arguments.{request_causes}
 use Rattle.model.proofs.JudgedLaws.{none_of_iff}
 use Rattle.model.specs.Values.{byte_values, Below}
-use Rattle.model.specs.Book.{Book, is_live}
+use Rattle.model.specs.Book.{Book, with_live, is_live}
 use Rattle.pool.specs.Fresh.{fresh_pool}
 use Rattle.grants_file.specs.File.{doors_in, total_in, grants_in}
 use Rattle.grants_file.specs.FileSets.{Accepted, FileSet}
@@ -61,7 +62,7 @@ grant_all-added {w} {b} (g ∷ gs) h each (distinct_more n d) room =
     let added = (grant_adds h g grantable new (omega arith)).1 in
     let put = put_append_right gs (put_insert_by grant_number g live) in
     let apart = perm_distinct (perm_map grant_number (put_perm put)) (distinct_more n d) in
-    grant_all-added gs added (λ x m. each x (Memᴰ.tail m)) apart (omega (arith, length_put (put_insert_by grant_number g live)))
+    grant_all-added {w = (grant_call w (request_of g)).state} {b = with_live b (insert_by grant_number g live)} gs added (λ x m. each x (Memᴰ.tail m)) apart (omega (arith, length_put (put_insert_by grant_number g live)))
     ∙ ap (λ (v : List ℕ). added_all v gs) (grant-added h g grantable new)
 
 pub file_added : (f : List ℕ) → Below byte_values f → Accepted f → (c : ℕ) → 1 ≤ c → c ≤ max_grants → total_in f ≤ c

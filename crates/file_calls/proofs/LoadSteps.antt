@@ -51,6 +51,7 @@ module _ (f : List ℕ) where
 
 -- the bytes of a slice are below 256
 bytes_below : (f : List ℕ) → ((i : ℕ) → get_or f i 0 < byte_values) → Below byte_values f
+bytes_below [] h y x3 = elim x3 [ ]
 bytes_below (x ∷ f) h y (Memᴰ.head e) = rw e (h 0)
 bytes_below (x ∷ f) h y (Memᴰ.tail m) = bytes_below f (λ i. h (suc i)) y m
 
