@@ -11,5 +11,4 @@ returns-then-line-gap-ne32 c = form_joined _ c.if-line-lt-TAIL.false c.if-line-g
 
 pub returns : goal.returns
 returns c =
-    let blank = c in
-    c.has_marks.ensures ∙ form_marked _ blank.if-line-lt-TAIL.false blank.if-line-gap-ne32.false
+    c.has_marks.ensures ∙ form_marked _ c.if-line-lt-TAIL.false c.if-line-gap-ne32.false

@@ -5,67 +5,44 @@ use Rattle.question.proofs.asking.plain_question.Goals as goal
 
 pub returns-then-starts : goal.returns-then-starts
 returns-then-starts c =
-    let who = c in
-    c.who.ensures ∙ plain_who _ (sym who.starts.ensures ∙ who.if-starts.true)
+    c.who.ensures ∙ plain_who _ (sym c.starts.ensures ∙ c.if-starts.true)
 
 pub returns-then-starts-2 : goal.returns-then-starts-2
 returns-then-starts-2 c =
-    let may = c in
-    let who = may in
-    c.may.ensures ∙ plain_may _ (sym who.starts.ensures ∙ who.if-starts.false) (sym may.starts-2.ensures ∙ may.if-starts-2.true)
+    c.may.ensures ∙ plain_may _ (sym c.starts.ensures ∙ c.if-starts.false) (sym c.starts-2.ensures ∙ c.if-starts-2.true)
 
 pub returns-then-starts-3 : goal.returns-then-starts-3
 returns-then-starts-3 c =
-    let covers = c in
-    let may = covers in
-    let who = may in
-    let w = sym who.starts.ensures ∙ who.if-starts.false in
-    let m = sym may.starts-2.ensures ∙ may.if-starts-2.false in
-    c.covers.ensures ∙ plain_covers _ w m (sym covers.starts-3.ensures ∙ covers.if-starts-3.true)
+    let w = sym c.starts.ensures ∙ c.if-starts.false in
+    let m = sym c.starts-2.ensures ∙ c.if-starts-2.false in
+    c.covers.ensures ∙ plain_covers _ w m (sym c.starts-3.ensures ∙ c.if-starts-3.true)
 
 pub returns-then-line-eq0 : goal.returns-then-line-eq0
 returns-then-line-eq0 c =
-    let covers = c in
-    let may = covers in
-    let who = may in
-    let w = sym who.starts.ensures ∙ who.if-starts.false in
-    let m = sym may.starts-2.ensures ∙ may.if-starts-2.false in
-    let o = sym covers.starts-3.ensures ∙ covers.if-starts-3.false in
+    let w = sym c.starts.ensures ∙ c.if-starts.false in
+    let m = sym c.starts-2.ensures ∙ c.if-starts-2.false in
+    let o = sym c.starts-3.ensures ∙ c.if-starts-3.false in
     plain_empty _ w m o c.if-line-eq0.true
 
 pub returns-then-equals : goal.returns-then-equals
 returns-then-equals c =
-    let full = c in
-    let covers = full in
-    let may = covers in
-    let who = may in
-    let w = sym who.starts.ensures ∙ who.if-starts.false in
-    let m = sym may.starts-2.ensures ∙ may.if-starts-2.false in
-    let o = sym covers.starts-3.ensures ∙ covers.if-starts-3.false in
-    plain_help _ w m o full.if-line-eq0.false (sym c.equals.ensures ∙ c.if-equals.true)
+    let w = sym c.starts.ensures ∙ c.if-starts.false in
+    let m = sym c.starts-2.ensures ∙ c.if-starts-2.false in
+    let o = sym c.starts-3.ensures ∙ c.if-starts-3.false in
+    plain_help _ w m o c.if-line-eq0.false (sym c.equals.ensures ∙ c.if-equals.true)
 
 pub returns-then-equals-2 : goal.returns-then-equals-2
 returns-then-equals-2 c =
-    let help = c in
-    let full = help in
-    let covers = full in
-    let may = covers in
-    let who = may in
-    let w = sym who.starts.ensures ∙ who.if-starts.false in
-    let m = sym may.starts-2.ensures ∙ may.if-starts-2.false in
-    let o = sym covers.starts-3.ensures ∙ covers.if-starts-3.false in
-    let h = sym help.equals.ensures ∙ help.if-equals.false in
-    plain_quit _ w m o full.if-line-eq0.false h (sym c.equals-2.ensures ∙ c.if-equals-2.true)
+    let w = sym c.starts.ensures ∙ c.if-starts.false in
+    let m = sym c.starts-2.ensures ∙ c.if-starts-2.false in
+    let o = sym c.starts-3.ensures ∙ c.if-starts-3.false in
+    let h = sym c.equals.ensures ∙ c.if-equals.false in
+    plain_quit _ w m o c.if-line-eq0.false h (sym c.equals-2.ensures ∙ c.if-equals-2.true)
 
 pub returns : goal.returns
 returns c =
-    let help = c in
-    let full = help in
-    let covers = full in
-    let may = covers in
-    let who = may in
-    let w = sym who.starts.ensures ∙ who.if-starts.false in
-    let m = sym may.starts-2.ensures ∙ may.if-starts-2.false in
-    let o = sym covers.starts-3.ensures ∙ covers.if-starts-3.false in
-    let h = sym help.equals.ensures ∙ help.if-equals.false in
-    plain_bad _ w m o full.if-line-eq0.false h (sym c.equals-2.ensures ∙ c.if-equals-2.false)
+    let w = sym c.starts.ensures ∙ c.if-starts.false in
+    let m = sym c.starts-2.ensures ∙ c.if-starts-2.false in
+    let o = sym c.starts-3.ensures ∙ c.if-starts-3.false in
+    let h = sym c.equals.ensures ∙ c.if-equals.false in
+    plain_bad _ w m o c.if-line-eq0.false h (sym c.equals-2.ensures ∙ c.if-equals-2.false)

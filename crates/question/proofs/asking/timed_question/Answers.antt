@@ -5,16 +5,12 @@ use Rattle.question.proofs.asking.timed_question.Goals as goal
 
 pub returns-then-starts : goal.returns-then-starts
 returns-then-starts c =
-    let who = c in
-    c.who_at.ensures ∙ timed_who _ _ (sym who.starts.ensures ∙ who.if-starts.true)
+    c.who_at.ensures ∙ timed_who _ _ (sym c.starts.ensures ∙ c.if-starts.true)
 
 pub returns-then-starts-2 : goal.returns-then-starts-2
 returns-then-starts-2 c =
-    let may = c in
-    let who = may in
-    c.may_at.ensures ∙ timed_may _ _ (sym who.starts.ensures ∙ who.if-starts.false) (sym may.starts-2.ensures ∙ may.if-starts-2.true)
+    c.may_at.ensures ∙ timed_may _ _ (sym c.starts.ensures ∙ c.if-starts.false) (sym c.starts-2.ensures ∙ c.if-starts-2.true)
 
 pub returns : goal.returns
 returns c =
-    let who = c in
-    timed_bad _ _ (sym who.starts.ensures ∙ who.if-starts.false) (sym c.starts-2.ensures ∙ c.if-starts-2.false)
+    timed_bad _ _ (sym c.starts.ensures ∙ c.if-starts.false) (sym c.starts-2.ensures ∙ c.if-starts-2.false)

@@ -6,12 +6,11 @@ use Rattle.question.proofs.QuestionLaws.{span_no_from, span_from}
 use Rattle.question.proofs.asking.until_question.Goals as goal
 
 pub returns-in_default : goal.returns-in_default
-returns-in_default c = span_no_from _ _ (sym c.last_moment.ensures ∙ c.enum_told-1.given.1)
+returns-in_default c = span_no_from _ _ (sym c.last_moment.ensures ∙ c.in_default.is)
 
 pub slice_bounds-span_question-end : goal.slice_bounds-span_question-end
 slice_bounds-span_question-end c = sym (length-take-le _ _ (omega arith))
 
 pub returns : goal.returns
 returns c =
-    let from = c in
-    c.span_question.ensures ∙ span_from _ _ _ (sym from.last_moment.ensures ∙ from.from-1.given.1)
+    c.span_question.ensures ∙ span_from _ _ _ (sym c.last_moment.ensures ∙ c.in-Is.is)

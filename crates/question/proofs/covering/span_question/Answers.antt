@@ -5,8 +5,7 @@ use Rattle.question.proofs.covering.span_question.Goals as goal
 
 pub returns-then-starts : goal.returns-then-starts
 returns-then-starts c =
-    let covers = c in
-    c.covers_at.ensures ∙ span_covers _ _ _ (sym covers.starts.ensures ∙ covers.if-starts.true)
+    c.covers_at.ensures ∙ span_covers _ _ _ (sym c.starts.ensures ∙ c.if-starts.true)
 
 pub returns : goal.returns
 returns c = span_bad _ _ _ (sym c.starts.ensures ∙ c.if-starts.false)

@@ -14,5 +14,4 @@ returns-then-a-b-2 c = rw (eq-eqb _ _ c.if-a-b.false, ne_eqb _ _ c.if-a-b-2.true
 pub returns : goal.returns
 unfolding same_date
 returns c =
-    let second = c in
-    rw (eq-eqb _ _ second.if-a-b.false, eq-eqb _ _ second.if-a-b-2.false)
+    rw (eq-eqb _ _ c.if-a-b.false, eq-eqb _ _ c.if-a-b-2.false)

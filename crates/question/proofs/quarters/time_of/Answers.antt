@@ -11,5 +11,4 @@ returns-then-minute-gt59 c = minute_high _ _ _ _ _ c.if-minute-gt59.true
 
 pub returns : goal.returns
 returns c =
-    let time = c in
-    c.quarter_at.ensures ∙ time_taken _ _ _ _ _ _ time.if-hour-gt23.false time.if-minute-gt59.false c.days_since-days.ensures.0
+    c.quarter_at.ensures ∙ time_taken _ _ _ _ _ _ c.if-hour-gt23.false c.if-minute-gt59.false c.days_since-days.ensures.0

@@ -13,15 +13,13 @@ returns-then-text-i c =
 
 pub returns-then-text-i-2 : goal.returns-then-text-i-2
 returns-then-text-i-2 c =
-    let room = c in
-    let l = room.loop-i in
-    starts_other _ _ l.i room.loop-i-test.true room.if-text-i.false c.if-text-i-2.true ∙ l.invariant
+    let l = c.loop-i in
+    starts_other _ _ l.i c.loop-i-test.true c.if-text-i.false c.if-text-i-2.true ∙ l.invariant
 
 pub loop-i-preserved : goal.loop-i-preserved
 loop-i-preserved c =
-    let room = c in
-    let l = room.loop-i in
-    starts_on _ _ l.i room.loop-i-test.true room.if-text-i.false c.if-text-i-2.false ∙ l.invariant
+    let l = c.loop-i in
+    starts_on _ _ l.i c.loop-i-test.true c.if-text-i.false c.if-text-i-2.false ∙ l.invariant
 
 pub returns : goal.returns
 returns c =

@@ -19,14 +19,14 @@ pub returns-in_default : goal.returns-in_default
 returns-in_default c =
     let l = c.loop-i in
     let i = c.loop-i-test.true in
-    let e = sym c.read_field.ensures ∙ c.enum_told-1.given.1 in
+    let e = sym c.read_field.ensures ∙ c.in_default.is in
     numbers_bad _ _ l.values _ _ _ Byte i (omega arith) c.if-line-at.false e ∙ l.invariant.4
 
 pub loop-i-preserved : goal.loop-i-preserved
 loop-i-preserved c =
     let l = c.loop-i in
     let i = c.loop-i-test.true in
-    let e = sym c.read_field.ensures ∙ c.value-1.given.1 in (
+    let e = sym c.read_field.ensures ∙ c.in-Number.is in (
       search rules,
       simp length-set l.invariant.1,
       l.invariant.2,
@@ -38,4 +38,4 @@ pub returns : goal.returns
 returns c =
     let l = c.loop-i in
     let a = c.args in
-    numbers-end a.t3 _ l.values a.count l.i l.at (omega arith) (omega arith) ∙ l.invariant.4
+    numbers-end a.widths _ l.values a.count l.i l.at (omega arith) (omega arith) ∙ l.invariant.4
