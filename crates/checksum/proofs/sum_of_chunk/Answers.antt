@@ -27,5 +27,5 @@ returns c =
     let front = c.sum_of_products-front in
     let back = c.sum_of_products-back in
     let half = length bytes / 2 in
-    chunk-sum bytes half start.args c.shifted.result front.result back.result c.shifted.ensures.0 front.ensures
+    chunk-sum bytes half start.args.before c.shifted.result front.result back.result c.shifted.ensures.0 front.ensures
     (rw (take_all (length bytes - half) (drop half bytes) (le_of_eq (length-drop half bytes))) at back.ensures)

@@ -41,7 +41,7 @@ pub overflow_add-agreeing : goal.overflow_add-agreeing
 overflow_add-agreeing c =
     let start = c in
     let l = c.loop-i in
-    omega (arith, l.invariant.2, agreeing_few start.args.door.now start.args.panel.now, ap length start.requires.0, start.well-formed.1.0.0)
+    omega (arith, l.invariant.2, agreeing_few start.args.door.now start.args.panel.now, ap length start.requires.0)
 
 pub loop-i-preserved : goal.loop-i-preserved
 loop-i-preserved c =

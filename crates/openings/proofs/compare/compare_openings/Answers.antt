@@ -15,36 +15,36 @@ returns-then-either c =
     (told_length _ _ found.record_defect-in_door.ensures found.record_defect-in_panel.ensures c.either.ensures c.if-either.true
     sizes.is_length.ensures c.is_length-2.ensures)
 
--- both sizes were tested
-sized : (c : goal.Else-either) → let a = c.args in
-    (wrong_size a.door.now || wrong_size a.panel.now) ≡ false
-sized c =
-    let sizes = c in
-    let found = sizes in
-    told_length _ _ found.record_defect-in_door.ensures found.record_defect-in_panel.ensures c.either.ensures c.if-either.false
-    sizes.is_length.ensures c.is_length-2.ensures
-
 pub returns-then-either-2 : goal.returns-then-either-2
 returns-then-either-2 c =
+    let sized : (wrong_size c.args.door.now || wrong_size c.args.panel.now) ≡ false =
+    told_length _ _ c.record_defect-in_door.ensures c.record_defect-in_panel.ensures c.either.ensures c.if-either.false
+    c.is_length.ensures c.is_length-2.ensures in
     let orders = c in
     let right = orders in
     let found = right in
-    compare-unordered _ _ (sized right)
+    compare-unordered _ _ sized
     (told_order _ _ found.record_defect-in_door.ensures found.record_defect-in_panel.ensures c.either-2.ensures c.if-either-2.true
-    (sized right) orders.is_order.ensures c.is_order-2.ensures)
+    sized orders.is_order.ensures c.is_order-2.ensures)
 
 pub compare_sound-requires : goal.compare_sound-requires
 compare_sound-requires c =
-    let right = (or_false_iff _ _).0 (sized c) in
+    let sized : (wrong_size c.args.door.now || wrong_size c.args.panel.now) ≡ false =
+    told_length _ _ c.record_defect-in_door.ensures c.record_defect-in_panel.ensures c.either.ensures c.if-either.false
+    c.is_length.ensures c.is_length-2.ensures in
+    let right = (or_false_iff _ _).0 sized in
     (wrong_size-sized _ right.0, wrong_size-sized _ right.1)
 
 pub returns : goal.returns
 returns c =
+    let sized : (wrong_size c.args.door.now || wrong_size c.args.panel.now) ≡ false =
+    told_length _ _ c.record_defect-in_door.ensures c.record_defect-in_panel.ensures c.either.ensures c.if-either.false
+    c.is_length.ensures c.is_length-2.ensures in
     let tested = c in
     let orders = tested in
     let right = orders in
     let found = right in
     c.compare_sound.ensures
-    ∙ compare-accepted _ _ (sized right)
+    ∙ compare-accepted _ _ sized
     (told_order _ _ found.record_defect-in_door.ensures found.record_defect-in_panel.ensures tested.either-2.ensures tested.if-either-2.false
-    (sized right) orders.is_order.ensures tested.is_order-2.ensures)
+    sized orders.is_order.ensures tested.is_order-2.ensures)

@@ -11,5 +11,5 @@ returns-then-entries_in-place c =
 pub returns : goal.returns
 returns c =
     let a = c.args in
-    rw (c.Opening-of.ensures, c.entry_at.ensures, c.next_left-place.ensures)
+    rw (c.opening_of.ensures, c.entry_at.ensures, c.next_left-place.ensures)
     (left_from-at a.bytes.now a.other.now a.from (omega (arith, c.next_left-place.ensures)))
