@@ -6,7 +6,7 @@ use std::io;
 
 // Which stream: standard output, or standard error.
 #[derive(Clone, Copy)]
-pub enum Side {
+pub enum Destination {
     Answers,
     Warnings,
 }
@@ -15,14 +15,14 @@ pub enum Side {
 #[derive(Clone, Copy)]
 pub struct Stream {
     pub rt: HostRuntime,
-    pub side: Side,
+    pub destination: Destination,
     pub whole: bool,
 }
 
 pub fn answers(rt: HostRuntime) -> Stream {
     Stream {
         rt,
-        side: Side::Answers,
+        destination: Destination::Answers,
         whole: true,
     }
 }
@@ -30,7 +30,7 @@ pub fn answers(rt: HostRuntime) -> Stream {
 pub fn warnings(rt: HostRuntime) -> Stream {
     Stream {
         rt,
-        side: Side::Warnings,
+        destination: Destination::Warnings,
         whole: true,
     }
 }
@@ -46,28 +46,28 @@ fn warn_broken(rt: HostRuntime, error: i32) {
 // The stream after a piece that could not be written.
 fn broken(to: Stream, error: io::Error) -> Stream {
     let rt = to.rt;
-    let side = to.side;
-    if let Side::Answers = side {
+    let destination = to.destination;
+    if let Destination::Answers = destination {
         warn_broken(rt, number_of(error));
     }
     Stream {
         rt,
-        side,
+        destination,
         whole: false,
     }
 }
 
 fn write_all(to: Stream, text: &[u8]) -> io::Result<()> {
-    match to.side {
-        Side::Answers => to.rt.stdout().write_all(text),
-        Side::Warnings => to.rt.stderr().write_all(text),
+    match to.destination {
+        Destination::Answers => to.rt.stdout().write_all(text),
+        Destination::Warnings => to.rt.stderr().write_all(text),
     }
 }
 
 fn print_decimal(to: Stream, n: usize) -> io::Result<()> {
-    match to.side {
-        Side::Answers => to.rt.stdout().print(n),
-        Side::Warnings => to.rt.stderr().print(n),
+    match to.destination {
+        Destination::Answers => to.rt.stdout().print(n),
+        Destination::Warnings => to.rt.stderr().print(n),
     }
 }
 
