@@ -74,7 +74,7 @@ takes_go_on input at end line₀ line k n after r h room kept t =
 pub goes_last : (line₀ line : List ℕ) (k n : ℕ) (l : Line) → k ≤ n → take k line ≡ take k line₀ → LastLine n l → GoesOn line₀ k line l
 goes_last line₀ line k n (Held m) h kept e = (omega arith, kept)
 goes_last line₀ line k n End h kept e = omega arith
-goes_last line₀ line k n Failed h kept e = tt
+goes_last line₀ line k n (Failed error) h kept e = tt
 goes_last line₀ line k n Long h kept e = tt
 
 -- what the buffer had of the line, and then what reading on kept of it
@@ -82,7 +82,7 @@ begins_goes_on : (line piece after after' : List ℕ) (k : ℕ) (l : Line) → k
     → GoesOn after k after' l → Begins line piece after' l
 begins_goes_on line piece after after' k (Held m) e b g = (omega arith, rw (← e) (g.1 ∙ b))
 begins_goes_on line piece after after' k End e b g = sym e ∙ g
-begins_goes_on line piece after after' k Failed e b g = tt
+begins_goes_on line piece after after' k (Failed error) e b g = tt
 begins_goes_on line piece after after' k Long e b g = tt
 
 module _ (input line : List ℕ) (c : Cursor) (inputAfter lineAfter : List ℕ) (r : Pulled) (safe : Safe inputAfter lineAfter r) where

@@ -26,7 +26,7 @@ pub record Within (input : List ℕ) (c : Cursor) : Type 0 where
 abbrev pub HeldIn : List ℕ → Line → Type 0
 HeldIn line (Held n) = IsPrefixLen n line
 HeldIn line End = Unit {0}
-HeldIn line Failed = Unit {0}
+HeldIn line (Failed error) = Unit {0}
 HeldIn line Long = Unit {0}
 
 pub record Safe (input line : List ℕ) (r : Pulled) : Type 0 where
@@ -36,13 +36,13 @@ pub record Safe (input line : List ℕ) (r : Pulled) : Type 0 where
 abbrev pub LastLine : ℕ → Line → Type 0
 LastLine n (Held m) = m ≡ n
 LastLine n End = n ≡ 0
-LastLine n Failed = Unit {0}
+LastLine n (Failed error) = Unit {0}
 LastLine n Long = Unit {0}
 
 abbrev pub GoesOn : List ℕ → ℕ → List ℕ → Line → Type 0
 GoesOn line n after (Held m) = (n ≤ m) × (take n after ≡ take n line)
 GoesOn line n after End = n ≡ 0
-GoesOn line n after Failed = Unit {0}
+GoesOn line n after (Failed error) = Unit {0}
 GoesOn line n after Long = Unit {0}
 
 -- the bytes of the line that the buffer has are its first ones
@@ -50,7 +50,7 @@ abbrev pub Begins : List ℕ → List ℕ → List ℕ → Line → Type 0
 Begins line piece after (Held m) =
     (min (length line) (length piece) ≤ m) × (take (min (length line) (length piece)) after ≡ take (length line) piece)
 Begins line piece after End = min (length line) (length piece) ≡ 0
-Begins line piece after Failed = Unit {0}
+Begins line piece after (Failed error) = Unit {0}
 Begins line piece after Long = Unit {0}
 
 pub record Buffered (input line : List ℕ) (c : Cursor) (inputAfter lineAfter : List ℕ) (r : Pulled) : Type 0 where

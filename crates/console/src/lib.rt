@@ -2,6 +2,7 @@
 #![tactic(auto)]
 
 pub mod arguments;
+pub mod errors;
 pub mod lines;
 pub mod names;
 pub mod output;

@@ -5,25 +5,28 @@ ghost use Rattle.std.specs.Prelude.{◌≡◌, ◌≤◌, length};
 ghost use Rattle.console.specs.Taken.{Taking, Takes, Keeps};
 ghost use Rattle.console.specs.Pulled.{HeldIn, Safe, LastLine, GoesOn, Pulls};
 
+use crate::errors::number_of;
+use std::io::Read;
+
 // The bytes of the buffer that were read and not yet taken: from `at` up to `end`.
-#[derive(Drop)]
+#[derive(Clone, Copy)]
 pub struct Cursor {
     pub at: usize,
     pub end: usize,
 }
 
-// The bytes of a line that the lent line holds, without the newline; or the input ended; or it could not be read; or the line is longer than
-// the lent one, and was given up.
-#[derive(Drop)]
+// The bytes of a line that the lent line holds, without the newline; or the input ended; or it could not be read, by the system's error
+// number; or the line is longer than the lent one, and was given up.
+#[derive(Clone, Copy)]
 pub enum Line {
     Held(usize),
     End,
-    Failed,
+    Failed(i32),
     Long,
 }
 
 // The line, and whether its newline was met: the last line may have none.
-#[derive(Drop)]
+#[derive(Clone, Copy)]
 pub struct Pulled {
     pub cursor: Cursor,
     pub line: Line,
@@ -31,14 +34,14 @@ pub struct Pulled {
 }
 
 // What becomes of a line that is longer than the lent one: it is read to its end, or given up.
-#[derive(Drop)]
+#[derive(Clone, Copy)]
 pub enum Longer {
     Dropped,
     GivenUp,
 }
 
 // What was taken from the buffer: the place after it, the bytes that the line now holds, and whether its newline was met.
-#[derive(Drop)]
+#[derive(Clone, Copy)]
 pub struct Taken {
     pub at: usize,
     pub held: usize,
@@ -111,22 +114,29 @@ fn is_given_up(longer: Longer, held: usize, room: usize) -> bool {
 
 // Reads until the line's newline, the end of the input, or a read that fails. A proved loop has to end, and nothing says that the input
 // does: so it counts its turns down, from a number that no run uses up.
-fn read_on(fd: i32, input: &mut [u8], line: &mut [u8], held: usize, longer: Longer) -> Pulled
+fn read_on<R: Read>(
+    from: &mut R,
+    input: &mut [u8],
+    line: &mut [u8],
+    held: usize,
+    longer: Longer,
+) -> Pulled
     requires { held ≤ length line.old }
     ensures { Safe input.new line.new result × GoesOn line.old held line.new result.line }
 {
     let mut so_far = held;
     let mut turns = u64::MAX;
     while turns > 0 {
-        let got = libc::read(fd, input);
-        if got < 0 {
-            return Pulled {
-                cursor: fresh(),
-                line: Line::Failed,
-                ended: false,
-            };
-        }
-        let end = io::count(got, input);
+        let end = match from.read(input) {
+            Ok(end) => end,
+            Err(error) => {
+                return Pulled {
+                    cursor: fresh(),
+                    line: Line::Failed(number_of(error)),
+                    ended: false,
+                };
+            }
+        };
         if end == 0 {
             break;
         }
@@ -156,8 +166,8 @@ fn read_on(fd: i32, input: &mut [u8], line: &mut [u8], held: usize, longer: Long
 }
 
 // The next line, from what is left in the buffer on. A cursor that does not lie in the buffer stands for an empty one.
-pub fn next_line(
-    fd: i32,
+pub fn next_line<R: Read>(
+    from: &mut R,
     input: &mut [u8],
     cursor: Cursor,
     line: &mut [u8],
@@ -168,10 +178,10 @@ pub fn next_line(
     let at = cursor.at;
     let end = cursor.end;
     if end < at {
-        return read_on(fd, input, line, 0, longer);
+        return read_on(from, input, line, 0, longer);
     }
     if input.len() < end {
-        return read_on(fd, input, line, 0, longer);
+        return read_on(from, input, line, 0, longer);
     }
     let taken = take_line(input, at, end, line, 0);
     if taken.whole {
@@ -181,5 +191,5 @@ pub fn next_line(
             ended: true,
         };
     }
-    read_on(fd, input, line, taken.held, longer)
+    read_on(from, input, line, taken.held, longer)
 }

@@ -1,11 +1,12 @@
 // Names that people gave, as they are printed: a control byte is shown as \x and two digits, so that a name can't change a terminal.
 use crate::output::{Stream, put, warn, warn_reason, warnings};
 
+const DIGITS: [u8; 16] = *b"0123456789abcdef";
+
 fn put_control(to: Stream, byte: u8) -> Stream {
-    let mut digits = [0u8; 16];
-    let n = io::hex(byte as u64, 2, &mut digits);
-    let out = put(to, b"\\x");
-    put(out, &digits[..n])
+    let high = DIGITS[(byte / 16) as usize];
+    let low = DIGITS[(byte % 16) as usize];
+    put(to, &[b'\\', b'x', high, low])
 }
 
 fn put_byte(to: Stream, byte: u8) -> Stream {
@@ -29,14 +30,14 @@ pub fn put_name(to: Stream, name: &[u8]) -> Stream {
     out
 }
 
-pub fn warn_name(name: &[u8]) {
-    put_name(warnings(), name);
+pub fn warn_name(rt: HostRuntime, name: &[u8]) {
+    put_name(warnings(rt), name);
 }
 
 // A file that can't be read, and why.
-pub fn warn_unread(name: &[u8], error: i32) {
-    warn(b"grants: ");
-    warn_name(name);
-    warn(b" can't be read: ");
-    warn_reason(error);
+pub fn warn_unread(rt: HostRuntime, name: &[u8], error: i32) {
+    warn(rt, b"grants: ");
+    warn_name(rt, name);
+    warn(rt, b" can't be read: ");
+    warn_reason(rt, error);
 }

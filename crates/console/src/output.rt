@@ -1,105 +1,134 @@
 // Pieces of a sentence on a stream: answers on standard output, what went wrong on standard error. Every write is looked at: a stream on
 // which a piece could not be written takes no more, and of an answer that is told once, on standard error.
-use libc::{STDERR_FILENO, STDOUT_FILENO};
+use crate::errors;
+use crate::errors::number_of;
+use std::io;
+
+// Which stream: standard output, or standard error.
+#[derive(Clone, Copy)]
+pub enum Side {
+    Answers,
+    Warnings,
+}
 
 // A stream, and whether all that was put on it so far has been written.
-#[derive(Drop)]
+#[derive(Clone, Copy)]
 pub struct Stream {
-    pub fd: i32,
+    pub rt: HostRuntime,
+    pub side: Side,
     pub whole: bool,
 }
 
-pub fn answers() -> Stream {
+pub fn answers(rt: HostRuntime) -> Stream {
     Stream {
-        fd: STDOUT_FILENO,
+        rt,
+        side: Side::Answers,
         whole: true,
     }
 }
 
-pub fn warnings() -> Stream {
+pub fn warnings(rt: HostRuntime) -> Stream {
     Stream {
-        fd: STDERR_FILENO,
+        rt,
+        side: Side::Warnings,
         whole: true,
     }
 }
 
 // The stream after a piece that could not be written.
-fn broken(fd: i32) -> Stream {
-    if fd == STDOUT_FILENO {
-        let error = os::errno();
-        warn(b"grants: the answer could not be written whole: ");
-        warn_reason(error);
+fn broken(to: Stream, error: io::Error) -> Stream {
+    let rt = to.rt;
+    let side = to.side;
+    if let Side::Answers = side {
+        warn(rt, b"grants: the answer could not be written whole: ");
+        warn_reason(rt, number_of(error));
     }
-    Stream { fd, whole: false }
+    Stream {
+        rt,
+        side,
+        whole: false,
+    }
+}
+
+fn write_all(to: Stream, text: &[u8]) -> io::Result<()> {
+    match to.side {
+        Side::Answers => to.rt.stdout().write_all(text),
+        Side::Warnings => to.rt.stderr().write_all(text),
+    }
+}
+
+fn print_decimal(to: Stream, n: usize) -> io::Result<()> {
+    match to.side {
+        Side::Answers => to.rt.stdout().print(n),
+        Side::Warnings => to.rt.stderr().print(n),
+    }
 }
 
 // A piece of a sentence, and a number in decimal.
 pub fn put(to: Stream, text: &[u8]) -> Stream {
-    let fd = to.fd;
     if !to.whole {
         return to;
     }
-    if io::write_all(fd, text) {
-        return to;
+    match write_all(to, text) {
+        Ok(()) => to,
+        Err(error) => broken(to, error),
     }
-    broken(fd)
 }
 
 pub fn put_number(to: Stream, n: usize) -> Stream {
-    let fd = to.fd;
     if !to.whole {
         return to;
     }
-    if io::print_decimal(fd, n as u64) {
-        return to;
+    match print_decimal(to, n) {
+        Ok(()) => to,
+        Err(error) => broken(to, error),
     }
-    broken(fd)
 }
 
-pub fn warn(text: &[u8]) {
-    io::write_all(STDERR_FILENO, text);
+pub fn warn(rt: HostRuntime, text: &[u8]) {
+    let _ = rt.stderr().write_all(text);
 }
 
-pub fn warn_number(n: u64) {
-    io::print_decimal(STDERR_FILENO, n);
+pub fn warn_number(rt: HostRuntime, n: u64) {
+    let _ = rt.eprint(n);
 }
 
 // The system's errors that have to do with a name or a place.
-fn warn_place(error: i32) {
-    if error == libc::ENOENT {
-        warn(b"there is no such file or folder\n");
-    } else if error == libc::EISDIR {
-        warn(b"it is a folder, not a file\n");
-    } else if error == libc::ENOTDIR {
-        warn(b"a part of its name is a file, not a folder\n");
-    } else if error == libc::ENAMETOOLONG {
-        warn(b"its name is too long\n");
-    } else if error == libc::ELOOP {
-        warn(b"its name leads through too many links\n");
+fn warn_place(rt: HostRuntime, error: i32) {
+    if error == errors::ENOENT {
+        warn(rt, b"there is no such file or folder\n");
+    } else if error == errors::EISDIR {
+        warn(rt, b"it is a folder, not a file\n");
+    } else if error == errors::ENOTDIR {
+        warn(rt, b"a part of its name is a file, not a folder\n");
+    } else if error == errors::ENAMETOOLONG {
+        warn(rt, b"its name is too long\n");
+    } else if error == errors::ELOOP {
+        warn(rt, b"its name leads through too many links\n");
     } else {
-        warn(b"the system refuses it\n");
+        warn(rt, b"the system refuses it\n");
     }
 }
 
 // The system's error in words, as the end of a sentence.
-pub fn warn_reason(error: i32) {
-    if error == libc::EACCES {
-        warn(b"you may not: ask who owns it\n");
-    } else if error == libc::EPERM {
-        warn(b"you may not: ask who owns it\n");
-    } else if error == libc::ENOSPC {
-        warn(b"the disk is full\n");
-    } else if error == libc::EROFS {
-        warn(b"the disk can only be read\n");
-    } else if error == libc::EFBIG {
-        warn(b"no file may be so large here\n");
-    } else if error == libc::EIO {
-        warn(b"the disk fails: have it looked at\n");
-    } else if error == libc::EBADF {
-        warn(b"it is closed\n");
-    } else if error == libc::EAGAIN {
-        warn(b"it is not ready, and is set not to wait\n");
+pub fn warn_reason(rt: HostRuntime, error: i32) {
+    if error == errors::EACCES {
+        warn(rt, b"you may not: ask who owns it\n");
+    } else if error == errors::EPERM {
+        warn(rt, b"you may not: ask who owns it\n");
+    } else if error == errors::ENOSPC {
+        warn(rt, b"the disk is full\n");
+    } else if error == errors::EROFS {
+        warn(rt, b"the disk can only be read\n");
+    } else if error == errors::EFBIG {
+        warn(rt, b"no file may be so large here\n");
+    } else if error == errors::EIO {
+        warn(rt, b"the disk fails: have it looked at\n");
+    } else if error == errors::EBADF {
+        warn(rt, b"it is closed\n");
+    } else if error == errors::EAGAIN {
+        warn(rt, b"it is not ready, and is set not to wait\n");
     } else {
-        warn_place(error);
+        warn_place(rt, error);
     }
 }

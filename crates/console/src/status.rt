@@ -1,28 +1,31 @@
-// How a program ended, for whoever started it. The language gives a program no status, so it writes one digit to file descriptor 3, where
+// How a program ended, for whoever started it. The program alone gives no status: it writes one digit to file descriptor 3, where
 // its last argument asks for that: bin/grants does, and makes a status of it.
+use crate::arguments::{count, text_at};
 use crate::output::Stream;
-use check::same;
+use std::fs::OpenOptions;
+use std::io;
+use std::io::Write;
 
 // Done, sound or equal; the answer is no: refused, differs, not sound; it could not be done: arguments, files, output.
-#[derive(Drop)]
+#[derive(Clone, Copy)]
 pub enum Ending {
     Done,
     No,
     Failed,
 }
 
-// Where the digit goes.
-const STATUS_FILENO: i32 = 3;
+// Where the digit goes: the system's name for file descriptor 3.
+const STATUS: &str = "/dev/fd/3";
 
 // Whether the last argument asks for the digit.
-pub fn is_asked() -> bool {
-    let count = os::arg_count();
+pub fn is_asked(rt: HostRuntime) -> bool {
+    let count = count(rt);
     if count < 2 {
         return false;
     }
     let mut last = [0u8; 16];
-    let n = os::arg(count - 1, &mut last);
-    same(&last[..n], b"status-to-3")
+    let n = text_at(rt, count - 1, &mut last);
+    &last[..n] == b"status-to-3".as_slice()
 }
 
 // The ending of an answer that says so: failed, where the answer was not written whole.
@@ -33,16 +36,25 @@ pub fn answered(out: Stream, ending: Ending) -> Ending {
     Ending::Failed
 }
 
-fn tell_digit(digit: &[u8]) {
-    if is_asked() {
-        io::write_all(STATUS_FILENO, digit);
+// Opened for reading too, so that the open waits for nobody, and to write behind what is there.
+fn write_digit(rt: HostRuntime, digit: &[u8]) -> io::Result<()> {
+    let mut to = OpenOptions::new()
+        .read(true)
+        .append(true)
+        .open(&rt, STATUS)?;
+    to.write_all(digit)
+}
+
+fn tell_digit(rt: HostRuntime, digit: &[u8]) {
+    if is_asked(rt) {
+        let _ = write_digit(rt, digit);
     }
 }
 
-pub fn tell(ending: Ending) {
+pub fn tell(rt: HostRuntime, ending: Ending) {
     match ending {
-        Ending::Done => tell_digit(b"0"),
-        Ending::No => tell_digit(b"1"),
-        Ending::Failed => tell_digit(b"2"),
+        Ending::Done => tell_digit(rt, b"0"),
+        Ending::No => tell_digit(rt, b"1"),
+        Ending::Failed => tell_digit(rt, b"2"),
     }
 }
