@@ -4,6 +4,9 @@ ghost use Rattle.std.specs.Prelude.{◌≡◌, take};
 ghost use Rattle.text.specs.Put.{Counts};
 ghost use Rattle.atomic_file.specs.Beside.{beside_name};
 
+use crate::path::{open_as, open_read};
+use console::errors::{EACCES, EEXIST};
+use std::fs::{File, OpenOptions};
 use text::put::{put_byte, put_text};
 
 // The first digit, and the byte after the last.
@@ -25,44 +28,46 @@ pub fn beside(path: &[u8], digit: u8, name: &mut [u8; 4096]) -> usize
 }
 
 // Whether a file of that name is there.
-pub fn is_left(path: &[u8], digit: u8) -> bool {
+pub fn is_left(rt: HostRuntime, path: &[u8], digit: u8) -> bool {
     let mut name = [0u8; 4096];
     let length = beside(path, digit, &mut name);
-    let fd = os::open_read(&name[..length]);
-    if fd < 0 {
-        return os::errno() == libc::EACCES;
+    match open_read(rt, &name[..length]) {
+        Ok(_) => true,
+        Err(error) => error == EACCES,
     }
-    libc::close(fd);
-    true
 }
 
-// Makes the file, if none of that name is there: its descriptor, or -1.
-fn make_at(path: &[u8], digit: u8) -> i32 {
+// Makes the file, if none of that name is there: open for writing, or the system's error number.
+fn make_at(rt: HostRuntime, path: &[u8], digit: u8) -> Result<File, i32> {
     let mut name = [0u8; 4096];
     let length = beside(path, digit, &mut name);
-    os::create(&name[..length])
+    open_as(
+        rt,
+        OpenOptions::new().write(true).create_new(true),
+        &name[..length],
+    )
 }
 
 // The new file, open for writing, and its digit; or the system's error number.
 #[derive(Drop)]
 pub enum Made {
-    As { fd: i32, digit: u8 },
+    As { file: File, digit: u8 },
     Failed(i32),
 }
 
 // Makes the file under the first name that no other has.
-pub fn make(path: &[u8]) -> Made {
+pub fn make(rt: HostRuntime, path: &[u8]) -> Made {
     let mut digit = FIRST;
     while digit < PAST {
-        let fd = make_at(path, digit);
-        if fd >= 0 {
-            return Made::As { fd, digit };
-        }
-        let error = os::errno();
-        if error != libc::EEXIST {
-            return Made::Failed(error);
+        match make_at(rt, path, digit) {
+            Ok(file) => return Made::As { file, digit },
+            Err(error) => {
+                if error != EEXIST {
+                    return Made::Failed(error);
+                }
+            }
         }
         digit += 1;
     }
-    Made::Failed(libc::EEXIST)
+    Made::Failed(EEXIST)
 }

@@ -2,6 +2,8 @@
 ghost use Rattle.io.specs.Counts.{IsPrefixLen};
 
 use crate::Stored;
+use crate::path::open_read;
+use console::errors::number_of;
 
 // So many bytes of a path name its folder, the last slash among them.
 fn folder_end(path: &[u8]) -> usize
@@ -17,24 +19,21 @@ fn folder_end(path: &[u8]) -> usize
     0
 }
 
-fn sync(folder: &[u8]) -> Stored {
-    let fd = os::open_read(folder);
-    if fd < 0 {
-        return Stored::Unsynced(os::errno());
+fn sync(rt: HostRuntime, folder: &[u8]) -> Stored {
+    let file = match open_read(rt, folder) {
+        Ok(file) => file,
+        Err(error) => return Stored::Unsynced(error),
+    };
+    match file.sync_all() {
+        Ok(()) => Stored::Done,
+        Err(error) => Stored::Unsynced(number_of(error)),
     }
-    if libc::fsync(fd) != 0 {
-        let error = os::errno();
-        libc::close(fd);
-        return Stored::Unsynced(error);
-    }
-    libc::close(fd);
-    Stored::Done
 }
 
-pub fn sync_folder(path: &[u8]) -> Stored {
+pub fn sync_folder(rt: HostRuntime, path: &[u8]) -> Stored {
     let end = folder_end(path);
     if end == 0 {
-        return sync(b".");
+        return sync(rt, b".");
     }
-    sync(&path[..end])
+    sync(rt, &path[..end])
 }

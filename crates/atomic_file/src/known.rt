@@ -1,8 +1,9 @@
 // What the system knows of an open file.
-use libc::types::{stat, timespec};
+use std::fs::File;
+use std::os::unix::fs::MetadataExt;
 
 // Which file it is, how many names it has, its kind and mode, and whose it is. A mode of 0 is no file's: nothing is known.
-#[derive(Drop)]
+#[derive(Clone, Copy)]
 pub struct Facts {
     pub device: u64,
     pub inode: u64,
@@ -12,48 +13,27 @@ pub struct Facts {
     pub group: u32,
 }
 
-fn no_time() -> timespec {
-    timespec {
-        tv_sec: 0,
-        tv_nsec: 0,
-    }
-}
-
-fn nothing() -> stat {
-    stat {
-        st_dev: 0,
-        st_ino: 0,
-        st_nlink: 0,
-        st_mode: 0,
-        st_uid: 0,
-        st_gid: 0,
-        __pad: 0,
-        st_rdev: 0,
-        st_size: 0,
-        st_blksize: 0,
-        st_blocks: 0,
-        st_atim: no_time(),
-        st_mtim: no_time(),
-        st_ctim: no_time(),
-        __unused: [0; 3],
-    }
-}
-
-// What was known before, where the system has nothing to say.
-fn asked(fd: i32, before: stat) -> stat {
-    let mut known = before;
-    libc::fstat(fd, &mut known);
-    known
-}
-
-pub fn facts_of(fd: i32) -> Facts {
-    let known = asked(fd, nothing());
+fn nothing() -> Facts {
     Facts {
-        device: known.st_dev,
-        inode: known.st_ino,
-        links: known.st_nlink,
-        mode: known.st_mode,
-        owner: known.st_uid,
-        group: known.st_gid,
+        device: 0,
+        inode: 0,
+        links: 0,
+        mode: 0,
+        owner: 0,
+        group: 0,
+    }
+}
+
+pub fn facts_of(file: &File) -> Facts {
+    match file.metadata() {
+        Ok(known) => Facts {
+            device: known.dev(),
+            inode: known.ino(),
+            links: known.nlink(),
+            mode: known.mode(),
+            owner: known.uid(),
+            group: known.gid(),
+        },
+        Err(_) => nothing(),
     }
 }

@@ -7,12 +7,13 @@ ghost use Rattle.std.specs.Prelude.{◌≡◌, take};
 pub mod beside;
 mod folder;
 pub mod known;
+pub mod path;
 pub mod reading;
 pub mod target;
 pub mod writing;
 
 // The bytes read, at the start of the lent ones; or the system's error number.
-#[derive(Drop)]
+#[derive(Clone, Copy)]
 pub enum Read {
     Bytes(usize),
     Failed(i32),
@@ -20,7 +21,7 @@ pub enum Read {
 
 // Written and in place; or the system's error number: of a file that is in place, but may be the old one again after a power cut; of one that
 // was not written, and nothing changed.
-#[derive(Drop)]
+#[derive(Clone, Copy)]
 pub enum Stored {
     Done,
     Unsynced(i32),

@@ -3,18 +3,21 @@ ghost use Rattle.std.specs.Prelude.{length};
 ghost use Rattle.atomic_file.specs.Within.{ReadWithin};
 
 use crate::Read;
+use crate::path::open_read;
+use console::errors::number_of;
+use std::io;
 
 // Reads on from an open file until the bytes are full or the file ends, however few come at a time.
-pub fn read_on(fd: i32, bytes: &mut [u8]) -> Read
+#[tactic(auto, unfolding(crate::specs::Within::ReadWithin))]
+pub fn read_on<R: io::Read>(from: &mut R, bytes: &mut [u8]) -> Read
     ensures { ReadWithin (length bytes.old) result }
 {
     let mut done: usize = 0;
     while done < bytes.len() {
-        let got = libc::read(fd, &mut bytes[done..]);
-        if got < 0 {
-            return Read::Failed(os::errno());
-        }
-        let more = io::count(got, &bytes[done..]);
+        let more = match from.read(&mut bytes[done..]) {
+            Ok(more) => more,
+            Err(error) => return Read::Failed(number_of(error)),
+        };
         if more == 0 {
             return Read::Bytes(done);
         }
@@ -23,14 +26,12 @@ pub fn read_on(fd: i32, bytes: &mut [u8]) -> Read
     Read::Bytes(done)
 }
 
-pub fn read(path: &[u8], bytes: &mut [u8]) -> Read
+#[tactic(auto, unfolding(crate::specs::Within::ReadWithin))]
+pub fn read(rt: HostRuntime, path: &[u8], bytes: &mut [u8]) -> Read
     ensures { ReadWithin (length bytes.old) result }
 {
-    let fd = os::open_read(path);
-    if fd < 0 {
-        return Read::Failed(os::errno());
+    match open_read(rt, path) {
+        Ok(mut file) => read_on(&mut file, bytes),
+        Err(error) => Read::Failed(error),
     }
-    let read = read_on(fd, bytes);
-    libc::close(fd);
-    read
 }

@@ -1,13 +1,18 @@
 // What stands where a file is to be written: none, a file, or something that can't be replaced by a file.
-ghost use Rattle.libc.specs.Io.{Ended};
-ghost use Rattle.std.specs.Prelude.{◌≤◌, length};
-ghost use Rattle.atomic_file.specs.Beside.{longest_path};
-
 use crate::known::{Facts, facts_of};
-use text::put::put_text;
+use crate::path::{open_as, open_read, text_of};
+use console::errors::{EISDIR, ENOENT};
+use std::fs::{File, OpenOptions, symlink_metadata};
+
+// The bits of a mode that tell the kind, and those of a file and of a folder.
+const KIND: u32 = 0o170000;
+
+const FILE: u32 = 0o100000;
+
+const FOLDER: u32 = 0o040000;
 
 // None; a file; a symbolic link; a device, a pipe or a socket; or the system's error number.
-#[derive(Drop)]
+#[derive(Clone, Copy)]
 pub enum Target {
     New,
     File(Facts),
@@ -24,62 +29,50 @@ pub fn is_same(a: Facts, b: Facts) -> bool {
     a.inode == b.inode
 }
 
-// A path as C takes it.
-fn ended(path: &[u8]) -> [u8; 4096]
-    requires { length path.now ≤ longest_path }
-    ensures { Ended result }
-{
-    let mut name = [0u8; 4096];
-    put_text(&mut name, 0, path);
-    name[4095] = 0;
-    name
+fn is_link_at(rt: HostRuntime, path: &str) -> bool {
+    match symlink_metadata(&rt, path) {
+        Ok(known) => known.is_symlink(),
+        Err(_) => false,
+    }
 }
 
-fn is_link(path: &[u8]) -> bool {
+fn is_link(rt: HostRuntime, path: &[u8]) -> bool {
     if 4000 < path.len() {
         return false;
     }
-    let name = ended(path);
-    let mut leads_to = [0u8; 1];
-    libc::readlink(&name, &mut leads_to) >= 0
+    match text_of(path) {
+        Ok(text) => is_link_at(rt, text),
+        Err(_) => false,
+    }
 }
 
 // Opens what stands there; for writing too, where that may be, since the open of a pipe for reading alone waits for a writer.
-fn open_any(path: &[u8]) -> i32 {
-    let fd = os::open_update(path);
-    if fd >= 0 {
-        return fd;
+fn open_any(rt: HostRuntime, path: &[u8]) -> Result<File, i32> {
+    match open_as(rt, OpenOptions::new().read(true).write(true), path) {
+        Ok(file) => Ok(file),
+        Err(ENOENT) => Err(ENOENT),
+        Err(_) => open_read(rt, path),
     }
-    if os::errno() == libc::ENOENT {
-        return fd;
-    }
-    os::open_read(path)
 }
 
 fn target_by(facts: Facts) -> Target {
-    let kind = facts.mode & libc::S_IFMT;
-    if kind == libc::S_IFREG {
+    let kind = facts.mode & KIND;
+    if kind == FILE {
         return Target::File(facts);
     }
-    if kind == libc::S_IFDIR {
-        return Target::Failed(libc::EISDIR);
+    if kind == FOLDER {
+        return Target::Failed(EISDIR);
     }
     Target::Special
 }
 
-pub fn target_at(path: &[u8]) -> Target {
-    if is_link(path) {
+pub fn target_at(rt: HostRuntime, path: &[u8]) -> Target {
+    if is_link(rt, path) {
         return Target::Link;
     }
-    let fd = open_any(path);
-    if fd < 0 {
-        let error = os::errno();
-        if error == libc::ENOENT {
-            return Target::New;
-        }
-        return Target::Failed(error);
+    match open_any(rt, path) {
+        Ok(file) => target_by(facts_of(&file)),
+        Err(ENOENT) => Target::New,
+        Err(error) => Target::Failed(error),
     }
-    let facts = facts_of(fd);
-    libc::close(fd);
-    target_by(facts)
 }
