@@ -2,15 +2,16 @@
 use crate::messages::put_refusal;
 use calendar::Base;
 use calendar::note::{NOTE_BYTES, moment_text};
+use console::arguments::text_at;
 use console::output::{Stream, put, put_number};
 use model::Fault;
 use question::Number;
 use question::decimal::number_of;
 
 // The number that an argument gives.
-pub fn number_at(place: usize) -> Number {
-    let mut argument = io::buffer();
-    let length = os::arg(place, &mut argument);
+pub fn number_at(rt: HostRuntime, place: usize) -> Number {
+    let mut argument = [0u8; 4096];
+    let length = text_at(rt, place, &mut argument);
     number_of(&argument[..length])
 }
 

@@ -25,8 +25,8 @@ pub fn shift_box(staff: u16, door: u16, from: u16, to: u16) -> Box {
 }
 
 // The box that was asked about.
-fn say_box(base: Base, bounds: Box) -> Stream {
-    let staff = put_number(put(answers(), b"staff "), bounds.staff_from as usize);
+fn say_box(rt: HostRuntime, base: Base, bounds: Box) -> Stream {
+    let staff = put_number(put(answers(rt), b"staff "), bounds.staff_from as usize);
     let door = put_number(put(staff, b", door "), bounds.door_from as usize);
     let from = say_moment(put(door, b", from quarter "), base, bounds.quarter_from);
     let until = say_moment(put(from, b" until quarter "), base, bounds.quarter_to);
@@ -46,14 +46,14 @@ fn say_total(out: Stream, rows: usize) -> Stream {
 }
 
 // The heads, above the first row.
-fn say_first(rows: usize, total: usize) -> Stream {
+fn say_first(rt: HostRuntime, rows: usize, total: usize) -> Stream {
     if 0 < rows {
-        return answers();
+        return answers(rt);
     }
     if total == 0 {
-        return answers();
+        return answers(rt);
     }
-    say_heads(answers())
+    say_heads(answers(rt))
 }
 
 // The grant of a number that the pool has. A pool that is the file's has no number that the file hasn't.
@@ -84,34 +84,41 @@ fn least(a: usize, b: usize) -> usize
 }
 
 // A screenful of rows, from the first that has not been shown, of the grants with these numbers, which are so many.
-fn say_screen(file: &[u8], numbers: &[u16], count: usize, bounds: Box, shown: usize) -> Shown {
+fn say_screen(
+    rt: HostRuntime,
+    file: &[u8],
+    numbers: &[u16],
+    count: usize,
+    bounds: Box,
+    shown: usize,
+) -> Shown {
     let total = least(count, numbers.len());
     let from = least(shown, total);
     let to = from + least(SCREEN, total - from);
-    let out = say_numbers(say_first(from, total), file, &numbers[from..to]);
+    let out = say_numbers(say_first(rt, from, total), file, &numbers[from..to]);
     if !out.whole {
         return none_shown(false);
     }
     if to < total {
-        return say_more(Pending::Covers(bounds), to);
+        return say_more(rt, Pending::Covers(bounds), to);
     }
     none_shown(say_total(out, total).whole)
 }
 
 // The same, of the grants that hold the box.
-pub fn say_holding(pool: &[u16], file: &[u8], bounds: Box, shown: usize) -> Shown {
+pub fn say_holding(rt: HostRuntime, pool: &[u16], file: &[u8], bounds: Box, shown: usize) -> Shown {
     let mut numbers = [0u16; MAX_GRANTS];
     let listed = list(pool, bounds, Choice::Holding, &mut numbers);
     match listed {
-        Listed::Count(n) => say_screen(file, &numbers, n, bounds, shown),
-        Listed::Refused(f) => none_shown(put(say_fault(answers(), f), b"\n").whole),
+        Listed::Count(n) => say_screen(rt, file, &numbers, n, bounds, shown),
+        Listed::Refused(f) => none_shown(put(say_fault(answers(rt), f), b"\n").whole),
     }
 }
 
 // The box, and the first screenful.
-pub fn say_covers(pool: &[u16], file: &[u8], base: Base, bounds: Box) -> Shown {
-    if !say_box(base, bounds).whole {
+pub fn say_covers(rt: HostRuntime, pool: &[u16], file: &[u8], base: Base, bounds: Box) -> Shown {
+    if !say_box(rt, base, bounds).whole {
         return none_shown(false);
     }
-    say_holding(pool, file, bounds, 0)
+    say_holding(rt, pool, file, bounds, 0)
 }

@@ -2,8 +2,7 @@
 use crate::pages::{
     say_all, say_check, say_cut, say_match, say_openings, say_panel, say_path, say_show, say_slips,
 };
-use check::same;
-use console::arguments::{are, given};
+use console::arguments::{are, given, text_at};
 use console::names::warn_name;
 use console::output::{Stream, warn};
 use console::status::{Ending, answered};
@@ -11,24 +10,30 @@ use console::status::{Ending, answered};
 // A longer name is not said again.
 const LONGEST_SAID: usize = 64;
 
-fn warn_unknown(command: &[u8]) {
+fn warn_unknown(rt: HostRuntime, command: &[u8]) {
     if LONGEST_SAID < command.len() {
-        warn(b"grants: there is no such command; these are the commands:\n");
+        warn(
+            rt,
+            b"grants: there is no such command; these are the commands:\n",
+        );
         return;
     }
     if command.len() == 0 {
-        warn(b"grants: there is no such command; these are the commands:\n");
+        warn(
+            rt,
+            b"grants: there is no such command; these are the commands:\n",
+        );
         return;
     }
-    warn(b"grants: there is no command ");
-    warn_name(command);
-    warn(b"; these are the commands:\n");
+    warn(rt, b"grants: there is no command ");
+    warn_name(rt, command);
+    warn(rt, b"; these are the commands:\n");
 }
 
 // A name that is no command.
-pub fn unknown(command: &[u8]) -> Ending {
-    warn_unknown(command);
-    say_all();
+pub fn unknown(rt: HostRuntime, command: &[u8]) -> Ending {
+    warn_unknown(rt, command);
+    say_all(rt);
     Ending::Failed
 }
 
@@ -37,52 +42,52 @@ fn paged(out: Stream) -> Ending {
 }
 
 // The page of a command.
-fn page(command: &[u8]) -> Ending {
-    if same(command, b"slips") {
-        return paged(say_slips());
+fn page(rt: HostRuntime, command: &[u8]) -> Ending {
+    if command == b"slips".as_slice() {
+        return paged(say_slips(rt));
     }
-    if same(command, b"panel") {
-        return paged(say_panel());
+    if command == b"panel".as_slice() {
+        return paged(say_panel(rt));
     }
-    if same(command, b"cut") {
-        return paged(say_cut());
+    if command == b"cut".as_slice() {
+        return paged(say_cut(rt));
     }
-    if same(command, b"match") {
-        return paged(say_match());
+    if command == b"match".as_slice() {
+        return paged(say_match(rt));
     }
-    if same(command, b"openings") {
-        return paged(say_openings());
+    if command == b"openings".as_slice() {
+        return paged(say_openings(rt));
     }
-    if same(command, b"check") {
-        return paged(say_check());
+    if command == b"check".as_slice() {
+        return paged(say_check(rt));
     }
-    if same(command, b"show") {
-        return paged(say_show());
+    if command == b"show".as_slice() {
+        return paged(say_show(rt));
     }
-    if same(command, b"path") {
-        return paged(say_path());
+    if command == b"path".as_slice() {
+        return paged(say_path(rt));
     }
-    if same(command, b"help") {
-        return paged(say_all());
+    if command == b"help".as_slice() {
+        return paged(say_all(rt));
     }
-    unknown(command)
+    unknown(rt, command)
 }
 
 // All commands, or the page of the one after `help`.
-pub fn help() -> Ending {
-    if !are(b"help", 1, 2) {
+pub fn help(rt: HostRuntime) -> Ending {
+    if !are(rt, b"help", 1, 2) {
         return Ending::Failed;
     }
-    if given() < 2 {
-        return paged(say_all());
+    if given(rt) < 2 {
+        return paged(say_all(rt));
     }
-    let mut asked = io::buffer();
-    let length = os::arg(2, &mut asked);
-    page(&asked[..length])
+    let mut asked = [0u8; 4096];
+    let length = text_at(rt, 2, &mut asked);
+    page(rt, &asked[..length])
 }
 
 // No command was given.
-pub fn no_command() -> Ending {
-    say_all();
+pub fn no_command(rt: HostRuntime) -> Ending {
+    say_all(rt);
     Ending::Failed
 }

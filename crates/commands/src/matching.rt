@@ -39,32 +39,35 @@ fn say_sides(out: Stream, pool: &[u16], file: &[u8], number: u16) -> Stream {
 }
 
 // The answer of match, and the refusal of a pool or a file.
-fn say_matched(pool: &[u16], file: &[u8], matched: Matched) -> Ending {
+fn say_matched(rt: HostRuntime, pool: &[u16], file: &[u8], matched: Matched) -> Ending {
     match matched {
-        Matched::Equal => answered(put(answers(), b"equal\n"), Ending::Done),
+        Matched::Equal => answered(put(answers(rt), b"equal\n"), Ending::Done),
         Matched::Differs(number) => {
-            let told = put_number(put(answers(), b"differs, first at grant "), number as usize);
+            let told = put_number(
+                put(answers(rt), b"differs, first at grant "),
+                number as usize,
+            );
             let out = say_sides(put(told, b"\n"), pool, file, number);
             answered(out, Ending::No)
         }
         Matched::Refused(f) => {
             let doors = doors_of(file);
             let Doors::Are { .. } = doors else {
-                return refuse(file);
+                return refuse(rt, file);
             };
-            warn(b"grants: ");
-            warn_refusal(f);
+            warn(rt, b"grants: ");
+            warn_refusal(rt, f);
             Ending::No
         }
     }
 }
 
-pub fn match_bank(file: &[u8]) -> Ending {
+pub fn match_bank(rt: HostRuntime, file: &[u8]) -> Ending {
     let mut pool = [0u16; MAX_WORDS];
-    let replayed = replay_named(&mut pool);
+    let replayed = replay_named(rt, &mut pool);
     let Ending::Done = replayed else {
-        warn(b"grants: nothing was held against the file\n");
+        warn(rt, b"grants: nothing was held against the file\n");
         return replayed;
     };
-    say_matched(&pool, file, match_file(&pool, file))
+    say_matched(rt, &pool, file, match_file(&pool, file))
 }

@@ -7,8 +7,8 @@ use model::Decision;
 use queries::decide::decide;
 
 // The answer's bytes; a refusal's sentence follows them.
-fn say_answer(text: &[u8], decision: Decision) -> Stream {
-    let out = put(answers(), text);
+fn say_answer(rt: HostRuntime, text: &[u8], decision: Decision) -> Stream {
+    let out = put(answers(rt), text);
     match decision {
         Decision::Opens(_) => out,
         Decision::Barred(_) => out,
@@ -17,9 +17,16 @@ fn say_answer(text: &[u8], decision: Decision) -> Stream {
     }
 }
 
-pub fn say_may(pool: &[u16], base: Base, staff: u16, door: u16, quarter: u16) -> Stream {
+pub fn say_may(
+    rt: HostRuntime,
+    pool: &[u16],
+    base: Base,
+    staff: u16,
+    door: u16,
+    quarter: u16,
+) -> Stream {
     let decision = decide(pool, staff, door, quarter);
     let mut out = [0u8; ANSWER_BYTES];
     let n = may_text(staff, door, quarter, base, decision, &mut out);
-    say_answer(&out[..n], decision)
+    say_answer(rt, &out[..n], decision)
 }

@@ -1,9 +1,9 @@
 // The pages of `grants help`, in plain words, each with an example.
 use console::output::{Stream, answers, put};
 
-pub fn say_all() -> Stream {
+pub fn say_all(rt: HostRuntime) -> Stream {
     let out = put(
-        answers(),
+        answers(rt),
         b"grants panel FILE [BASE-DAY]     bank: answer questions about doors\n",
     );
     let out = put(
@@ -69,8 +69,8 @@ pub fn say_questions(out: Stream) -> Stream {
     put(out, b"  Enter: more of the same; help; quit\n\n")
 }
 
-pub fn say_panel() -> Stream {
-    let out = put(answers(), b"grants panel FILE [BASE-DAY]\n");
+pub fn say_panel(rt: HostRuntime) -> Stream {
+    let out = put(answers(rt), b"grants panel FILE [BASE-DAY]\n");
     let out = put(
         out,
         b"Loads a bank's file and answers questions that you type:\n",
@@ -91,8 +91,8 @@ pub fn say_panel() -> Stream {
     put(out, b"Example: grants panel bank.lgf 2026-01-01\n")
 }
 
-pub fn say_cut() -> Stream {
-    let out = put(answers(), b"grants cut JOURNAL FROM TO FILE [empty]\n");
+pub fn say_cut(rt: HostRuntime) -> Stream {
+    let out = put(answers(rt), b"grants cut JOURNAL FROM TO FILE [empty]\n");
     let out = put(
         out,
         b"Replays a journal, a text file of slips G and R, and writes the grants that touch\n",
@@ -116,8 +116,8 @@ pub fn say_cut() -> Stream {
     put(out, b"Example: grants cut night.txt 1 40 bank.lgf\n")
 }
 
-pub fn say_match() -> Stream {
-    let out = put(answers(), b"grants match JOURNAL FILE\n");
+pub fn say_match(rt: HostRuntime) -> Stream {
+    let out = put(answers(rt), b"grants match JOURNAL FILE\n");
     let out = put(
         out,
         b"Replays head office's journal and holds its grants for the file's doors against\n",
@@ -129,9 +129,9 @@ pub fn say_match() -> Stream {
     put(out, b"Example: grants match night.txt bank.lgf\n")
 }
 
-pub fn say_openings() -> Stream {
+pub fn say_openings(rt: HostRuntime) -> Stream {
     let out = put(
-        answers(),
+        answers(rt),
         b"grants openings DOOR-RECORD PANEL-RECORD [BASE-DAY]\n",
     );
     let out = put(
@@ -157,8 +157,8 @@ pub fn say_openings() -> Stream {
     )
 }
 
-pub fn say_check() -> Stream {
-    let out = put(answers(), b"grants check FILE\n");
+pub fn say_check(rt: HostRuntime) -> Stream {
+    let out = put(answers(rt), b"grants check FILE\n");
     let out = put(
         out,
         b"Says whether a file is sound; if not, in which block, and what is wrong there.\n",
@@ -166,8 +166,8 @@ pub fn say_check() -> Stream {
     put(out, b"Example: grants check bank.lgf\n")
 }
 
-pub fn say_show() -> Stream {
-    let out = put(answers(), b"grants show FILE\n");
+pub fn say_show(rt: HostRuntime) -> Stream {
+    let out = put(answers(rt), b"grants show FILE\n");
     let out = put(
         out,
         b"A file's grants, ascending by number, a row each: number, rank, staff and doors from\n",
@@ -179,8 +179,8 @@ pub fn say_show() -> Stream {
     put(out, b"Example: grants show bank.lgf\n")
 }
 
-pub fn say_path() -> Stream {
-    let out = put(answers(), b"grants path FILE NUMBER\n");
+pub fn say_path(rt: HostRuntime) -> Stream {
+    let out = put(answers(rt), b"grants path FILE NUMBER\n");
     let out = put(
         out,
         b"Shows where the grant NUMBER stands in the tree of an index: its own cell first, then\n",
@@ -200,8 +200,8 @@ pub fn say_path() -> Stream {
     put(out, b"Example: grants path night.txt 24\n")
 }
 
-pub fn say_slips() -> Stream {
-    let out = put(answers(), b"grants slips\n");
+pub fn say_slips(rt: HostRuntime) -> Stream {
+    let out = put(answers(rt), b"grants slips\n");
     let out = put(
         out,
         b"Reads a slip a line from standard input and prints an answer a line; takes no name:\n",

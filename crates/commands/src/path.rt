@@ -19,6 +19,7 @@ use model::{Grant, Outcome};
 use panel::rows::ROW_BYTES;
 use pool::layout::MAX_WORDS;
 use question::Number;
+use std::fs::File;
 
 // One byte more than the longest bank's file has, so that a longer one is seen to be longer.
 const ROOM: usize = MAX_BYTES + 1;
@@ -54,83 +55,98 @@ fn say_cells(out: Stream, pool: &[u16], number: u16) -> Ending {
 }
 
 // The heads and the rows, or that there is no such grant.
-fn say_path(pool: &[u16], number: u16) -> Ending {
+fn say_path(rt: HostRuntime, pool: &[u16], number: u16) -> Ending {
     let own = ancestor_at(pool, number, 0);
     let Ancestor::Is { .. } = own else {
-        return at_end(answers(), own);
+        return at_end(answers(rt), own);
     };
-    let heads = say_heads(put(answers(), b"    cell   level"));
+    let heads = say_heads(put(answers(rt), b"    cell   level"));
     say_cells(heads, pool, number)
 }
 
-fn path_in_file(file: &[u8], number: u16) -> Ending {
+fn path_in_file(rt: HostRuntime, file: &[u8], number: u16) -> Ending {
     let mut pool = [0u16; MAX_WORDS];
     let loaded = load(&mut pool, file);
     match loaded {
-        Outcome::Done => say_path(&pool, number),
-        Outcome::Refused(_) => refuse(file),
+        Outcome::Done => say_path(rt, &pool, number),
+        Outcome::Refused(_) => refuse(rt, file),
     }
 }
 
-fn path_in_journal(fd: i32, name: &[u8], input: &mut [u8], read: usize, number: u16) -> Ending {
+fn path_in_journal(
+    rt: HostRuntime,
+    file: File,
+    name: &[u8],
+    input: &mut [u8],
+    read: usize,
+    number: u16,
+) -> Ending {
     let mut pool = [0u16; MAX_WORDS];
-    let replayed = replay_on(fd, name, &mut pool, input, read);
+    let replayed = replay_on(rt, file, name, &mut pool, input, read);
     let Ending::Done = replayed else {
         return replayed;
     };
-    say_path(&pool, number)
+    say_path(rt, &pool, number)
 }
 
 // A bank's file is told from a journal by its mark. What was read of a journal until then isn't read again: it may come through a pipe.
-fn path_in_read(fd: i32, name: &[u8], bytes: &mut [u8], read: usize, number: u16) -> Ending {
+fn path_in_read(
+    rt: HostRuntime,
+    file: File,
+    name: &[u8],
+    bytes: &mut [u8],
+    read: usize,
+    number: u16,
+) -> Ending {
     if is_marked(first(bytes, read)) {
-        libc::close(fd);
-        return path_in_file(first(bytes, read), number);
+        drop(file);
+        return path_in_file(rt, first(bytes, read), number);
     }
-    path_in_journal(fd, name, bytes, read, number)
+    path_in_journal(rt, file, name, bytes, read, number)
 }
 
-fn path_in(name: &[u8], number: u16) -> Ending {
-    let fd = open(name);
-    if fd < 0 {
+fn path_in(rt: HostRuntime, name: &[u8], number: u16) -> Ending {
+    let Some(mut file) = open(rt, name) else {
         return Ending::Failed;
-    }
+    };
     let mut bytes = [0u8; ROOM];
-    let got = read_on(fd, &mut bytes);
+    let got = read_on(&mut file, &mut bytes);
     match got {
-        Read::Bytes(n) => path_in_read(fd, name, &mut bytes, n, number),
+        Read::Bytes(n) => path_in_read(rt, file, name, &mut bytes, n, number),
         Read::Failed(error) => {
-            libc::close(fd);
-            warn_unread(name, error);
+            warn_unread(rt, name, error);
             Ending::Failed
         }
     }
 }
 
-fn path_of(number: u16) -> Ending {
-    let mut name = io::buffer();
-    let length = name_at(b"FILE", 2, &mut name);
+fn path_of(rt: HostRuntime, number: u16) -> Ending {
+    let mut name = [0u8; 4096];
+    let length = name_at(rt, b"FILE", 2, &mut name);
     if length == 0 {
         return Ending::Failed;
     }
-    path_in(&name[..length], number)
+    path_in(rt, &name[..length], number)
 }
 
-fn no_number() -> Ending {
-    warn(b"grants: NUMBER is no grant's number: give one from 1 to 65535\n");
+fn no_number(rt: HostRuntime) -> Ending {
+    warn(
+        rt,
+        b"grants: NUMBER is no grant's number: give one from 1 to 65535\n",
+    );
     Ending::Failed
 }
 
-pub fn path() -> Ending {
-    if !are(b"path", 3, 3) {
+pub fn path(rt: HostRuntime) -> Ending {
+    if !are(rt, b"path", 3, 3) {
         return Ending::Failed;
     }
-    let given = number_at(3);
+    let given = number_at(rt, 3);
     let Number::Value(number) = given else {
-        return no_number();
+        return no_number(rt);
     };
     if number == 0 {
-        return no_number();
+        return no_number(rt);
     }
-    path_of(number)
+    path_of(rt, number)
 }

@@ -5,6 +5,7 @@ use atomic_file::known::Facts;
 use atomic_file::reading::read;
 use atomic_file::target::{Target, is_same};
 use atomic_file::writing::Like;
+use console::errors::{EEXIST, ENAMETOOLONG};
 use console::names::warn_name;
 use console::output::{warn, warn_reason};
 use grants_file::layout::{BLOCK_BYTES, MAGIC};
@@ -12,10 +13,10 @@ use grants_file::layout::{BLOCK_BYTES, MAGIC};
 // So many bytes tell a grants file's mark and whether it holds grants: a file of a block alone has none.
 const TOLD: usize = BLOCK_BYTES + 1;
 
-fn refuse(path: &[u8], reason: &[u8]) -> bool {
-    warn(b"grants: ");
-    warn_name(path);
-    warn(reason);
+fn refuse(rt: HostRuntime, path: &[u8], reason: &[u8]) -> bool {
+    warn(rt, b"grants: ");
+    warn_name(rt, path);
+    warn(rt, reason);
     false
 }
 
@@ -34,7 +35,7 @@ pub fn is_marked(bytes: &[u8]) -> bool {
 }
 
 // What a file holds: nothing; a grants file, and whether it has room for grants; or something else; or it can't be read.
-#[derive(Drop)]
+#[derive(Clone, Copy)]
 pub enum Contents {
     Nothing,
     NoGrants,
@@ -56,9 +57,9 @@ fn contents_of(bytes: &[u8]) -> Contents {
     Contents::Grants
 }
 
-fn contents_at(path: &[u8]) -> Contents {
+fn contents_at(rt: HostRuntime, path: &[u8]) -> Contents {
     let mut bytes = [0u8; TOLD];
-    let got = read(path, &mut bytes);
+    let got = read(rt, path, &mut bytes);
     match got {
         Read::Bytes(n) => contents_of(atomic_file::first(&bytes, n)),
         Read::Failed(error) => Contents::Failed(error),
@@ -66,67 +67,79 @@ fn contents_at(path: &[u8]) -> Contents {
 }
 
 // Why a file could not be written: what is said of a new file's name alone, or of any file.
-fn warn_why(error: i32) {
-    if error == libc::EEXIST {
-        warn(b"all names for a new file are taken: remove the leftovers\n");
-    } else if error == libc::ENAMETOOLONG {
-        warn(b"its name is too long: while it is written it has five bytes more\n");
+fn warn_why(rt: HostRuntime, error: i32) {
+    if error == EEXIST {
+        warn(
+            rt,
+            b"all names for a new file are taken: remove the leftovers\n",
+        );
+    } else if error == ENAMETOOLONG {
+        warn(
+            rt,
+            b"its name is too long: while it is written it has five bytes more\n",
+        );
     } else {
-        warn_reason(error);
+        warn_reason(rt, error);
     }
 }
 
-pub fn warn_unwritten(path: &[u8], error: i32) {
-    warn(b"grants: ");
-    warn_name(path);
-    warn(b" was not written, and nothing was changed: ");
-    warn_why(error);
+pub fn warn_unwritten(rt: HostRuntime, path: &[u8], error: i32) {
+    warn(rt, b"grants: ");
+    warn_name(rt, path);
+    warn(rt, b" was not written, and nothing was changed: ");
+    warn_why(rt, error);
 }
 
 // Whether a file may be replaced that is there.
-fn is_replaceable(path: &[u8], there: Facts, journal: Facts) -> bool {
+fn is_replaceable(rt: HostRuntime, path: &[u8], there: Facts, journal: Facts) -> bool {
     if is_same(there, journal) {
         return refuse(
+            rt,
             path,
             b" is the journal itself: name another file to write\n",
         );
     }
-    let held = contents_at(path);
+    let held = contents_at(rt, path);
     match held {
         Contents::Nothing => true,
         Contents::NoGrants => true,
         Contents::Grants => true,
         Contents::Other => refuse(
+            rt,
             path,
             b" is there and is no grants file: name another, or remove it first\n",
         ),
         Contents::Failed(error) => {
-            warn_unwritten(path, error);
+            warn_unwritten(rt, path, error);
             false
         }
     }
 }
 
 // Whether a bank's file may be written there; else says why not.
-pub fn is_fit(path: &[u8], target: Target, journal: Facts) -> bool {
+pub fn is_fit(rt: HostRuntime, path: &[u8], target: Target, journal: Facts) -> bool {
     match target {
         Target::New => true,
-        Target::File(there) => is_replaceable(path, there, journal),
-        Target::Link => refuse(path, b" is a link: name the file that it leads to\n"),
-        Target::Special => refuse(path, b" is a device or a pipe, not a file: name a file\n"),
+        Target::File(there) => is_replaceable(rt, path, there, journal),
+        Target::Link => refuse(rt, path, b" is a link: name the file that it leads to\n"),
+        Target::Special => refuse(
+            rt,
+            path,
+            b" is a device or a pipe, not a file: name a file\n",
+        ),
         Target::Failed(error) => {
-            warn_unwritten(path, error);
+            warn_unwritten(rt, path, error);
             false
         }
     }
 }
 
 // Whether a file that holds grants is there.
-pub fn holds_grants(path: &[u8], target: Target) -> bool {
+pub fn holds_grants(rt: HostRuntime, path: &[u8], target: Target) -> bool {
     let Target::File(_) = target else {
         return false;
     };
-    let held = contents_at(path);
+    let held = contents_at(rt, path);
     match held {
         Contents::Grants => true,
         Contents::Nothing => false,
@@ -147,33 +160,36 @@ pub fn like_of(target: Target) -> Like {
     }
 }
 
-fn warn_left(path: &[u8], digit: u8) {
-    if is_left(path, digit) {
-        warn(b"grants: ");
-        warn_name(path);
-        warn(b".new");
-        warn(&[digit]);
-        warn(b" is left from a cut that was ended: remove it, unless a cut still runs\n");
+fn warn_left(rt: HostRuntime, path: &[u8], digit: u8) {
+    if is_left(rt, path, digit) {
+        warn(rt, b"grants: ");
+        warn_name(rt, path);
+        warn(rt, b".new");
+        warn(rt, &[digit]);
+        warn(
+            rt,
+            b" is left from a cut that was ended: remove it, unless a cut still runs\n",
+        );
     }
 }
 
 // Says which files are left from cuts that were ended.
-pub fn warn_leftovers(path: &[u8]) {
+pub fn warn_leftovers(rt: HostRuntime, path: &[u8]) {
     let mut digit = FIRST;
     while digit < PAST {
-        warn_left(path, digit);
+        warn_left(rt, path, digit);
         digit += 1;
     }
 }
 
 // Says that other names of the file keep what they had.
-pub fn warn_names(path: &[u8], target: Target) {
+pub fn warn_names(rt: HostRuntime, path: &[u8], target: Target) {
     let Target::File(there) = target else {
         return;
     };
     if 1 < there.links {
-        warn(b"grants: ");
-        warn_name(path);
-        warn(b" had other names: they keep the old file\n");
+        warn(rt, b"grants: ");
+        warn_name(rt, path);
+        warn(rt, b" had other names: they keep the old file\n");
     }
 }

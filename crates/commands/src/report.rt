@@ -11,8 +11,8 @@ use grants_file::grants::{first_door, grant_in, last_door, total_in};
 use grants_file::validate::validate;
 
 // The verdict in words, with the block and what is wrong in it, of a file that a command can't take.
-pub fn refuse(file: &[u8]) -> Ending {
-    answered(say_defect(answers(), validate(file)), Ending::No)
+pub fn refuse(rt: HostRuntime, file: &[u8]) -> Ending {
+    answered(say_defect(answers(rt), validate(file)), Ending::No)
 }
 
 // Doors, how many grants, and how many bytes.
@@ -44,9 +44,9 @@ pub fn say_contents(out: Stream, file: &[u8]) -> Stream {
     say_holdings(out, file)
 }
 
-pub fn check(file: &[u8]) -> Ending {
+pub fn check(rt: HostRuntime, file: &[u8]) -> Ending {
     let defect = validate(file);
-    let out = say_defect(answers(), defect);
+    let out = say_defect(answers(rt), defect);
     if is_wrong(defect) {
         return answered(out, Ending::No);
     }
@@ -67,11 +67,11 @@ fn say_rows(out: Stream, file: &[u8]) -> Stream
     shown
 }
 
-pub fn show(file: &[u8]) -> Ending {
+pub fn show(rt: HostRuntime, file: &[u8]) -> Ending {
     let defect = validate(file);
     if is_wrong(defect) {
-        return answered(say_defect(answers(), defect), Ending::No);
+        return answered(say_defect(answers(rt), defect), Ending::No);
     }
-    let rows = say_rows(say_heads(answers()), file);
+    let rows = say_rows(say_heads(answers(rt)), file);
     answered(say_holdings(rows, file), Ending::Done)
 }

@@ -6,7 +6,7 @@ use model::Box;
 pub const SCREEN: usize = 16;
 
 // The question whose rows haven't all been shown: none, who may open a door in a quarter, or which grants hold a box.
-#[derive(Drop)]
+#[derive(Clone, Copy)]
 pub enum Pending {
     None,
     Who { door: u16, quarter: u16 },
@@ -14,7 +14,7 @@ pub enum Pending {
 }
 
 // How many of its rows have been shown; `whole` where all that was to be shown has been written.
-#[derive(Drop)]
+#[derive(Clone, Copy)]
 pub struct Shown {
     pub whole: bool,
     pub pending: Pending,
@@ -30,9 +30,9 @@ pub fn none_shown(whole: bool) -> Shown {
 }
 
 // The end of a screen after which there is more.
-pub fn say_more(pending: Pending, rows: usize) -> Shown {
+pub fn say_more(rt: HostRuntime, pending: Pending, rows: usize) -> Shown {
     Shown {
-        whole: put(answers(), b"more: press Enter\n\n").whole,
+        whole: put(answers(rt), b"more: press Enter\n\n").whole,
         pending,
         rows,
     }

@@ -7,15 +7,15 @@ use panel::rows::{ROW_BYTES, touching_row};
 use panel::touching::{Touching, touching_at};
 
 // One row: whether there was one and it was written; and whether all was written.
-#[derive(Drop)]
+#[derive(Clone, Copy)]
 struct Row {
     is_row: bool,
     whole: bool,
 }
 
 // The heads of the rows of `who`.
-pub fn say_who(base: Base, door: u16, quarter: u16) -> Stream {
-    let named = put_number(put(answers(), b"door "), door as usize);
+pub fn say_who(rt: HostRuntime, base: Base, door: u16, quarter: u16) -> Stream {
+    let named = put_number(put(answers(rt), b"door "), door as usize);
     let asked = say_quarter(named, base, quarter);
     put(
         asked,
@@ -46,20 +46,20 @@ fn last_row(out: Stream) -> Row {
     }
 }
 
-fn say_row(pool: &[u16], base: Base, door: u16, quarter: u16, i: usize) -> Row {
+fn say_row(rt: HostRuntime, pool: &[u16], base: Base, door: u16, quarter: u16, i: usize) -> Row {
     let row = touching_at(pool, door, quarter, i);
     match row {
         Touching::Is { grant, precedence } => {
             let mut text = [0u8; ROW_BYTES];
             let n = touching_row(grant, precedence, base, &mut text);
-            let out = put(answers(), &text[..n]);
+            let out = put(answers(rt), &text[..n]);
             Row {
                 is_row: out.whole,
                 whole: out.whole,
             }
         }
-        Touching::End => last_row(say_total(answers(), i)),
-        Touching::Refused(f) => last_row(say_fault(answers(), f)),
+        Touching::End => last_row(say_total(answers(rt), i)),
+        Touching::Refused(f) => last_row(say_fault(answers(rt), f)),
     }
 }
 
@@ -77,24 +77,31 @@ fn is_row(pool: &[u16], door: u16, quarter: u16, i: usize) -> bool {
 }
 
 // The end of a screen: that there is more, or how many there were.
-fn end_screen(pool: &[u16], door: u16, quarter: u16, rows: usize) -> Shown {
+fn end_screen(rt: HostRuntime, pool: &[u16], door: u16, quarter: u16, rows: usize) -> Shown {
     if !is_row(pool, door, quarter, rows) {
-        return none_shown(say_total(answers(), rows).whole);
+        return none_shown(say_total(answers(rt), rows).whole);
     }
-    say_more(Pending::Who { door, quarter }, rows)
+    say_more(rt, Pending::Who { door, quarter }, rows)
 }
 
 // A screenful of rows, from the first that has not been shown. Gives how many have been shown then, and whether more are left.
-pub fn say_rows(pool: &[u16], base: Base, door: u16, quarter: u16, rows: usize) -> Shown {
+pub fn say_rows(
+    rt: HostRuntime,
+    pool: &[u16],
+    base: Base,
+    door: u16,
+    quarter: u16,
+    rows: usize,
+) -> Shown {
     let mut i: usize = rows % 65536;
     let mut room: usize = SCREEN;
     while 0 < room {
-        let row = say_row(pool, base, door, quarter, i);
+        let row = say_row(rt, pool, base, door, quarter, i);
         if !row.is_row {
             return none_shown(row.whole);
         }
         i += 1;
         room -= 1;
     }
-    end_screen(pool, door, quarter, i)
+    end_screen(rt, pool, door, quarter, i)
 }

@@ -9,7 +9,6 @@ use file_calls::write::write;
 use geometry::axis::LEVELS;
 use grants_file::layout::{BLOCK_BYTES, MAX_BYTES};
 use index::start::start;
-use libc::STDOUT_FILENO;
 use model::{MAX_GRANTS, Matched, Outcome, Written};
 use pool::Field;
 use pool::layout::{CAPACITY, CELL_WORDS, FREE, MAX_WORDS, ROOT, place_of, wide};
@@ -65,96 +64,96 @@ fn link_both_to_next(pool: &mut [u16]) {
     link(pool, k, 0, 0, k - 1);
 }
 
-fn call(pool: &mut [u16], lent: &mut [u16], line: &[u8]) {
+fn call(rt: HostRuntime, pool: &mut [u16], lent: &mut [u16], line: &[u8]) {
     let mut out = [0u8; LINE_BYTES];
     let n = answer(pool, lent, line, &mut out);
-    io::write_all(STDOUT_FILENO, &out[..n]);
+    let _ = rt.write_all(&out[..n]);
 }
 
 // A slip of each kind.
-fn each_call(pool: &mut [u16]) {
+fn each_call(rt: HostRuntime, pool: &mut [u16]) {
     let mut lent = [0u16; MAX_GRANTS];
-    call(pool, &mut lent, b"C");
-    call(pool, &mut lent, b"D 1 1 1");
-    call(pool, &mut lent, b"L 0 65535 0 65535 0 65535");
-    call(pool, &mut lent, b"R 5");
-    call(pool, &mut lent, b"G 5 1 1 0 9 0 9 0 9");
+    call(rt, pool, &mut lent, b"C");
+    call(rt, pool, &mut lent, b"D 1 1 1");
+    call(rt, pool, &mut lent, b"L 0 65535 0 65535 0 65535");
+    call(rt, pool, &mut lent, b"R 5");
+    call(rt, pool, &mut lent, b"G 5 1 1 0 9 0 9 0 9");
 }
 
-fn say(outcome: Outcome) {
+fn say(rt: HostRuntime, outcome: Outcome) {
     let mut out = [0u8; LINE_BYTES];
     let n = print_outcome(outcome, &mut out);
-    io::write_all(STDOUT_FILENO, &out[..n]);
+    let _ = rt.write_all(&out[..n]);
 }
 
-fn write_all_doors(pool: &[u16]) {
+fn write_all_doors(rt: HostRuntime, pool: &[u16]) {
     let mut bytes = [0u8; MAX_BYTES];
     let written = write(pool, 0, 65535, &mut bytes);
     match written {
-        Written::Length(_) => say(Outcome::Done),
-        Written::Refused(fault) => say(Outcome::Refused(fault)),
+        Written::Length(_) => say(rt, Outcome::Done),
+        Written::Refused(fault) => say(rt, Outcome::Refused(fault)),
     }
 }
 
-fn match_empty(pool: &[u16]) {
+fn match_empty(rt: HostRuntime, pool: &[u16]) {
     let mut empty = [0u16; ONE_CELL];
     start(&mut empty);
     let mut file = [0u8; BLOCK_BYTES];
     write(&empty, 0, 65535, &mut file);
     let matched = match_file(pool, &file);
     match matched {
-        Matched::Equal => say(Outcome::Done),
-        Matched::Differs(_) => say(Outcome::Done),
-        Matched::Refused(fault) => say(Outcome::Refused(fault)),
+        Matched::Equal => say(rt, Outcome::Done),
+        Matched::Differs(_) => say(rt, Outcome::Done),
+        Matched::Refused(fault) => say(rt, Outcome::Refused(fault)),
     }
 }
 
 // Every call but start and load, which walk nothing.
-fn all_calls(pool: &mut [u16]) {
-    each_call(pool);
-    write_all_doors(pool);
-    match_empty(pool);
+fn all_calls(rt: HostRuntime, pool: &mut [u16]) {
+    each_call(rt, pool);
+    write_all_doors(rt, pool);
+    match_empty(rt, pool);
 }
 
 // Every link is to the first cell.
-fn try_first() {
+fn try_first(rt: HostRuntime) {
     let mut pool = [0u16; MAX_WORDS];
     every_link_one(&mut pool);
     header(&mut pool);
     link(&mut pool, 1, 1, 1, 0);
-    all_calls(&mut pool);
+    all_calls(rt, &mut pool);
 }
 
 // Each of three cells has the other two.
-fn try_three() {
+fn try_three(rt: HostRuntime) {
     let mut pool = [0u16; MAX_WORDS];
     header(&mut pool);
     link(&mut pool, 1, 2, 3, 0);
     link(&mut pool, 2, 3, 1, 1);
     link(&mut pool, 3, 1, 2, 1);
-    all_calls(&mut pool);
+    all_calls(rt, &mut pool);
 }
 
 // Each of two cells has the other on both sides.
-fn try_two() {
+fn try_two(rt: HostRuntime) {
     let mut pool = [0u16; MAX_WORDS];
     header(&mut pool);
     link(&mut pool, 1, 2, 2, 0);
     link(&mut pool, 2, 1, 1, 1);
-    all_calls(&mut pool);
+    all_calls(rt, &mut pool);
 }
 
 // No cycle: the last cell is met in 2^112 ways, each of them right.
-fn try_chain() {
+fn try_chain(rt: HostRuntime) {
     let mut pool = [0u16; MAX_WORDS];
     header(&mut pool);
     link_both_to_next(&mut pool);
-    all_calls(&mut pool);
+    all_calls(rt, &mut pool);
 }
 
-fn main() {
-    try_first();
-    try_three();
-    try_two();
-    try_chain();
+fn main(rt: HostRuntime) {
+    try_first(rt);
+    try_three(rt);
+    try_two(rt);
+    try_chain(rt);
 }

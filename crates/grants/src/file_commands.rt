@@ -12,7 +12,7 @@ use grants_file::layout::MAX_BYTES;
 // One byte more than the longest file has, so that a longer one is seen to be longer.
 const ROOM: usize = MAX_BYTES + 1;
 
-#[derive(Drop)]
+#[derive(Clone, Copy)]
 pub enum FileCommand {
     Panel,
     Match,
@@ -20,35 +20,35 @@ pub enum FileCommand {
     Show,
 }
 
-fn run(command: FileCommand, file: &[u8]) -> Ending {
+fn run(rt: HostRuntime, command: FileCommand, file: &[u8]) -> Ending {
     match command {
-        FileCommand::Panel => panel(file),
-        FileCommand::Match => match_bank(file),
-        FileCommand::Check => check(file),
-        FileCommand::Show => show(file),
+        FileCommand::Panel => panel(rt, file),
+        FileCommand::Match => match_bank(rt, file),
+        FileCommand::Check => check(rt, file),
+        FileCommand::Show => show(rt, file),
     }
 }
 
 // Reads the file, and runs the command where it could be read.
-fn read_then(command: FileCommand, path: &[u8]) -> Ending {
+fn read_then(rt: HostRuntime, command: FileCommand, path: &[u8]) -> Ending {
     let mut bytes = [0u8; ROOM];
-    let got = read(path, &mut bytes);
+    let got = read(rt, path, &mut bytes);
     match got {
-        Read::Bytes(n) => run(command, first(&bytes, n)),
+        Read::Bytes(n) => run(rt, command, first(&bytes, n)),
         Read::Failed(error) => {
-            warn_unread(path, error);
+            warn_unread(rt, path, error);
             Ending::Failed
         }
     }
 }
 
 // Whether the command's arguments are all there.
-fn is_complete(command: FileCommand) -> bool {
+fn is_complete(rt: HostRuntime, command: FileCommand) -> bool {
     match command {
-        FileCommand::Panel => are(b"panel", 2, 3),
-        FileCommand::Match => are(b"match", 3, 3),
-        FileCommand::Check => are(b"check", 2, 2),
-        FileCommand::Show => are(b"show", 2, 2),
+        FileCommand::Panel => are(rt, b"panel", 2, 3),
+        FileCommand::Match => are(rt, b"match", 3, 3),
+        FileCommand::Check => are(rt, b"check", 2, 2),
+        FileCommand::Show => are(rt, b"show", 2, 2),
     }
 }
 
@@ -62,14 +62,14 @@ fn place_of(command: FileCommand) -> usize {
     }
 }
 
-pub fn on_file(command: FileCommand) -> Ending {
-    if !is_complete(command) {
+pub fn on_file(rt: HostRuntime, command: FileCommand) -> Ending {
+    if !is_complete(rt, command) {
         return Ending::Failed;
     }
-    let mut path = io::buffer();
-    let length = name_at(b"FILE", place_of(command), &mut path);
+    let mut path = [0u8; 4096];
+    let length = name_at(rt, b"FILE", place_of(command), &mut path);
     if length == 0 {
         return Ending::Failed;
     }
-    read_then(command, &path[..length])
+    read_then(rt, command, &path[..length])
 }

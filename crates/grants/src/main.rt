@@ -4,62 +4,64 @@
 
 mod file_commands;
 
-use check::same;
-use console::arguments::given;
+use console::arguments::{given, text_at};
 use console::output::warn;
 use console::status::{Ending, tell};
 use file_commands::{FileCommand, on_file};
 
 // The slip program under its other name.
-fn slips() -> Ending {
-    if 1 < given() {
-        warn(b"grants: slips reads standard input and takes no name: type grants slips < FILE\n");
+fn slips(rt: HostRuntime) -> Ending {
+    if 1 < given(rt) {
+        warn(
+            rt,
+            b"grants: slips reads standard input and takes no name: type grants slips < FILE\n",
+        );
         return Ending::Failed;
     }
-    slip_session::program::run()
+    slip_session::program::run(rt)
 }
 
 // Runs a command.
-fn run(command: &[u8]) -> Ending {
-    if same(command, b"slips") {
-        return slips();
+fn run(rt: HostRuntime, command: &[u8]) -> Ending {
+    if command == b"slips".as_slice() {
+        return slips(rt);
     }
-    if same(command, b"panel") {
-        return on_file(FileCommand::Panel);
+    if command == b"panel".as_slice() {
+        return on_file(rt, FileCommand::Panel);
     }
-    if same(command, b"cut") {
-        return commands::cut::cut();
+    if command == b"cut".as_slice() {
+        return commands::cut::cut(rt);
     }
-    if same(command, b"match") {
-        return on_file(FileCommand::Match);
+    if command == b"match".as_slice() {
+        return on_file(rt, FileCommand::Match);
     }
-    if same(command, b"openings") {
-        return openings_command::openings();
+    if command == b"openings".as_slice() {
+        return openings_command::openings(rt);
     }
-    if same(command, b"check") {
-        return on_file(FileCommand::Check);
+    if command == b"check".as_slice() {
+        return on_file(rt, FileCommand::Check);
     }
-    if same(command, b"show") {
-        return on_file(FileCommand::Show);
+    if command == b"show".as_slice() {
+        return on_file(rt, FileCommand::Show);
     }
-    if same(command, b"path") {
-        return commands::path::path();
+    if command == b"path".as_slice() {
+        return commands::path::path(rt);
     }
-    if same(command, b"help") {
-        return commands::help::help();
+    if command == b"help".as_slice() {
+        return commands::help::help(rt);
     }
-    commands::help::unknown(command)
+    commands::help::unknown(rt, command)
 }
 
-fn run_given() -> Ending {
-    if given() == 0 {
-        return commands::help::no_command();
+fn run_given(rt: HostRuntime) -> Ending {
+    if given(rt) == 0 {
+        return commands::help::no_command(rt);
     }
-    let mut command = io::buffer();
-    let length = os::arg(1, &mut command);
-    run(&command[..length])
+    let mut command = [0u8; 4096];
+    let length = text_at(rt, 1, &mut command);
+    run(rt, &command[..length])
 }
 
-fn main() {
-    tell(run_given());
+fn main(rt: HostRuntime) {
+    tell(rt, run_given(rt));
 }

@@ -8,8 +8,13 @@ use console::status::{Ending, answered};
 use openings::Compared;
 use openings::compare::compare_openings;
 
-fn say_counts(agreeing: usize, left_in_door: usize, left_in_panel: usize) -> Stream {
-    let out = put(put_number(answers(), agreeing), b" agree, ");
+fn say_counts(
+    rt: HostRuntime,
+    agreeing: usize,
+    left_in_door: usize,
+    left_in_panel: usize,
+) -> Stream {
+    let out = put(put_number(answers(rt), agreeing), b" agree, ");
     let out = put(put_number(out, left_in_door), b" left in the door record, ");
     put(
         put_number(out, left_in_panel),
@@ -29,7 +34,7 @@ fn ending_of(left_in_door: usize, left_in_panel: usize) -> Ending {
 }
 
 // Compares two sound records, and says what they have in common and what is left.
-fn compare_sound(door: &[u8], panel: &[u8], base: Base) -> Ending {
+fn compare_sound(rt: HostRuntime, door: &[u8], panel: &[u8], base: Base) -> Ending {
     let compared = compare_openings(door, panel);
     match compared {
         Compared::Entries {
@@ -37,13 +42,13 @@ fn compare_sound(door: &[u8], panel: &[u8], base: Base) -> Ending {
             left_in_door,
             left_in_panel,
         } => {
-            let counts = say_counts(agreeing, left_in_door, left_in_panel);
+            let counts = say_counts(rt, agreeing, left_in_door, left_in_panel);
             let one = say_left(counts, b"door", left_in_door, door, panel, base);
             let both = say_left(one, b"panel", left_in_panel, panel, door, base);
             answered(both, ending_of(left_in_door, left_in_panel))
         }
         Compared::Refused(_) => {
-            warn(b"grants: the records are refused\n");
+            warn(rt, b"grants: the records are refused\n");
             Ending::No
         }
     }
@@ -63,11 +68,11 @@ fn worse(one: Ending, other: Ending) -> Ending {
 }
 
 // Both records are looked at before the command ends, so that a person hears of both.
-pub fn compare_records(door_name: &[u8], panel_name: &[u8], base: Base) -> Ending {
+pub fn compare_records(rt: HostRuntime, door_name: &[u8], panel_name: &[u8], base: Base) -> Ending {
     let mut door = [0u8; ROOM];
     let mut panel = [0u8; ROOM];
-    let of_door = read_record(door_name, &mut door);
-    let of_panel = read_record(panel_name, &mut panel);
+    let of_door = read_record(rt, door_name, &mut door);
+    let of_panel = read_record(rt, panel_name, &mut panel);
     let door_ending = of_door.ending;
     let panel_ending = of_panel.ending;
     let ending = worse(door_ending, panel_ending);
@@ -75,6 +80,7 @@ pub fn compare_records(door_name: &[u8], panel_name: &[u8], base: Base) -> Endin
         return ending;
     };
     compare_sound(
+        rt,
         first(&door, of_door.bytes),
         first(&panel, of_panel.bytes),
         base,

@@ -12,23 +12,23 @@ use console::arguments::{are, name_at};
 use console::status::Ending;
 
 // `grants openings DOOR-RECORD PANEL-RECORD [BASE-DAY]`.
-pub fn openings() -> Ending {
-    if !are(b"openings", 3, 4) {
+pub fn openings(rt: HostRuntime) -> Ending {
+    if !are(rt, b"openings", 3, 4) {
         return Ending::Failed;
     }
-    let mut door = io::buffer();
-    let door_length = name_at(b"DOOR-RECORD", 2, &mut door);
+    let mut door = [0u8; 4096];
+    let door_length = name_at(rt, b"DOOR-RECORD", 2, &mut door);
     if door_length == 0 {
         return Ending::Failed;
     }
-    let mut panel = io::buffer();
-    let panel_length = name_at(b"PANEL-RECORD", 3, &mut panel);
+    let mut panel = [0u8; 4096];
+    let panel_length = name_at(rt, b"PANEL-RECORD", 3, &mut panel);
     if panel_length == 0 {
         return Ending::Failed;
     }
-    let given = base_at(4);
+    let given = base_at(rt, 4);
     let GivenBase::Is(base) = given else {
         return Ending::Failed;
     };
-    compare_records(&door[..door_length], &panel[..panel_length], base)
+    compare_records(rt, &door[..door_length], &panel[..panel_length], base)
 }

@@ -12,30 +12,30 @@ use openings::{ENTRY_BYTES, MAX_ENTRIES, RecordDefect};
 pub const ROOM: usize = MAX_ENTRIES * ENTRY_BYTES + ENTRY_BYTES;
 
 // How many bytes were read, and Done where they are a sound record; else what was wrong has been told.
-#[derive(Drop)]
+#[derive(Clone, Copy)]
 pub struct RecordRead {
     pub bytes: usize,
     pub ending: Ending,
 }
 
 // Says nothing of a sound record.
-fn judge_record(name: &[u8], record: &[u8]) -> Ending {
+fn judge_record(rt: HostRuntime, name: &[u8], record: &[u8]) -> Ending {
     let defect = record_defect(record);
     let RecordDefect::Sound = defect else {
-        return answered(say_defect(answers(), name, defect), Ending::No);
+        return answered(say_defect(answers(rt), name, defect), Ending::No);
     };
     Ending::Done
 }
 
-pub fn read_record(name: &[u8], bytes: &mut [u8]) -> RecordRead {
-    let got = read(name, bytes);
+pub fn read_record(rt: HostRuntime, name: &[u8], bytes: &mut [u8]) -> RecordRead {
+    let got = read(rt, name, bytes);
     match got {
         Read::Bytes(n) => RecordRead {
             bytes: n,
-            ending: judge_record(name, first(bytes, n)),
+            ending: judge_record(rt, name, first(bytes, n)),
         },
         Read::Failed(error) => {
-            warn_unread(name, error);
+            warn_unread(rt, name, error);
             RecordRead {
                 bytes: 0,
                 ending: Ending::Failed,

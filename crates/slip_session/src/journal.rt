@@ -12,7 +12,7 @@ use index::revoke::revoke;
 use model::Outcome;
 
 // What a journal's line comes to: its call was made, with this answer; or it is a question, or no slip.
-#[derive(Drop)]
+#[derive(Clone, Copy)]
 pub enum Entry {
     Made(Outcome),
     Question,

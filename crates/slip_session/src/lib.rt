@@ -25,7 +25,7 @@ use queries::decide::decide;
 use queries::list::list;
 
 // A line's call with its arguments. A kind above 1 is a value here; grant refuses it.
-#[derive(Drop)]
+#[derive(Clone, Copy)]
 pub enum Slip {
     Grant {
         number: u16,

@@ -6,11 +6,14 @@ use console::arguments::given;
 use console::output::warn;
 use console::status::{Ending, tell};
 
-fn main() {
-    if 0 < given() {
-        warn(b"grants: slips reads standard input and takes no name: type slips < FILE\n");
-        tell(Ending::Failed);
+fn main(rt: HostRuntime) {
+    if 0 < given(rt) {
+        warn(
+            rt,
+            b"grants: slips reads standard input and takes no name: type slips < FILE\n",
+        );
+        tell(rt, Ending::Failed);
         return;
     }
-    tell(slip_session::program::run());
+    tell(rt, slip_session::program::run(rt));
 }
