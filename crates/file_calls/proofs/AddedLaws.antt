@@ -11,9 +11,9 @@ use mathlib.Core.List.{List, [], ◌∷◌, ◌++◌, map, map-append, append-ni
 use native.Mathlib.Omega.{arith}
 use lib.ListN.{length}
 use borrow.Author.Tests.{not-false, eqb-true}
+use Rattle.lists.specs.Sort.{insert_by}
 use Rattle.lists.proofs.DistinctLaws.{Distinct, distinct_more}
 use Rattle.lists.proofs.PermLaws.{put_append_right, put_perm, length_put, perm_map, perm_distinct}
-use Rattle.lists.specs.Sort.{insert_by}
 use Rattle.lists.proofs.SortLaws.{put_insert_by, rises_distinct}
 use Rattle.model.specs.declared.Grant.{Grant}
 use Rattle.model.specs.Limits.{max_grants}
@@ -21,7 +21,7 @@ use Rattle.model.specs.Call.{request_of}
 use Rattle.model.specs.Arguments.{request_causes}
 use Rattle.model.proofs.JudgedLaws.{none_of_iff}
 use Rattle.model.specs.Values.{byte_values, Below}
-use Rattle.model.specs.Book.{Book, is_live, with_live}
+use Rattle.model.specs.Book.{Book, with_live, is_live}
 use Rattle.pool.specs.Fresh.{fresh_pool}
 use Rattle.grants_file.specs.File.{doors_in, total_in, grants_in}
 use Rattle.grants_file.specs.FileSets.{Accepted, FileSet}

@@ -43,10 +43,9 @@ fn answer_lines(
     line: &mut [u8],
 ) -> Ending {
     let mut cursor = fresh();
-    let mut from = rt.stdin();
     let mut turns = u64::MAX;
     while turns > 0 {
-        let pulled = next_line(&mut from, input, cursor, line, Longer::Dropped);
+        let pulled = next_line(&mut rt.stdin(), input, cursor, line, Longer::Dropped);
         let got = pulled.line;
         let Line::Held(n) = got else {
             return at_end(rt, got);

@@ -4,7 +4,7 @@ use Rattle.packing.specs.Pack.{word}
 use Rattle.packing.proofs.pack_compared.Goals as goal
 
 pub returns-in-Entries : goal.returns-in-Entries
-returns-in-Entries c = rw c.compared-1.given.1 (c.word.ensures ∙ ap (word 0 _) c.halves-left.ensures)
+returns-in-Entries c = rw c.in-Entries.is (c.word.ensures ∙ ap (word 0 _) c.halves-left.ensures)
 
 pub returns-in-Refused : goal.returns-in-Refused
-returns-in-Refused c = rw c.compared-in-Refused-1.given.1 c.pack_fault.ensures
+returns-in-Refused c = rw c.in-Refused.is c.pack_fault.ensures

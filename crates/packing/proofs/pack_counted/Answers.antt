@@ -3,7 +3,7 @@
 use Rattle.packing.proofs.pack_counted.Goals as goal
 
 pub returns-in-Cells : goal.returns-in-Cells
-returns-in-Cells c = rw c.counted-1.given.1 c.word.ensures
+returns-in-Cells c = rw c.in-Cells.is c.word.ensures
 
 pub returns-in-Refused : goal.returns-in-Refused
-returns-in-Refused c = rw c.counted-in-Refused-1.given.1 c.pack_fault.ensures
+returns-in-Refused c = rw c.in-Refused.is c.pack_fault.ensures

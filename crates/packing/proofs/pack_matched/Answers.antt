@@ -3,10 +3,10 @@
 use Rattle.packing.proofs.pack_matched.Goals as goal
 
 pub returns-in-Equal : goal.returns-in-Equal
-returns-in-Equal c = rw c.enum_told-1.given.1 c.word.ensures
+returns-in-Equal c = rw c.in-Equal.is c.word.ensures
 
 pub returns-in-Differs : goal.returns-in-Differs
-returns-in-Differs c = rw c.matched-1.given.1 c.word-in-Differs.ensures
+returns-in-Differs c = rw c.in-Differs.is c.word-in-Differs.ensures
 
 pub returns-in-Refused : goal.returns-in-Refused
-returns-in-Refused c = rw c.matched-in-Refused-1.given.1 c.pack_fault.ensures
+returns-in-Refused c = rw c.in-Refused.is c.pack_fault.ensures

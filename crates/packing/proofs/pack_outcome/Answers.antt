@@ -3,7 +3,7 @@
 use Rattle.packing.proofs.pack_outcome.Goals as goal
 
 pub returns-in-Done : goal.returns-in-Done
-returns-in-Done c = rw c.enum_told-1.given.1 c.word.ensures
+returns-in-Done c = rw c.in-Done.is c.word.ensures
 
 pub returns-in-Refused : goal.returns-in-Refused
-returns-in-Refused c = rw c.outcome-1.given.1 c.pack_fault.ensures
+returns-in-Refused c = rw c.in-Refused.is c.pack_fault.ensures

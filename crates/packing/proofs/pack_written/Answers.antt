@@ -3,7 +3,7 @@
 use Rattle.packing.proofs.pack_written.Goals as goal
 
 pub returns-in-Length : goal.returns-in-Length
-returns-in-Length c = rw c.written-1.given.1 c.word.ensures
+returns-in-Length c = rw c.in-Length.is c.word.ensures
 
 pub returns-in-Refused : goal.returns-in-Refused
-returns-in-Refused c = rw c.written-in-Refused-1.given.1 c.pack_fault.ensures
+returns-in-Refused c = rw c.in-Refused.is c.pack_fault.ensures

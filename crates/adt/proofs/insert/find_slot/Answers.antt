@@ -8,7 +8,6 @@ use lib.ListN.{set}
 use Rattle.geometry.specs.Region.{Shape}
 use Rattle.geometry.proofs.RegionLaws.{root_shape, half-shape}
 use Rattle.geometry.proofs.HalfLaws.{set_half_of}
-use Prim.Native.Nat.{◌≤◌}
 use borrow.Author.Rules.{rules}
 use Rattle.adt.proofs.insert.find_slot.Goals as goal
 

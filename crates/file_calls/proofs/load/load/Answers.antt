@@ -21,7 +21,7 @@ returns-in_default c =
     let some = judged in
     let start = some in
     load_file start.args.pool.now _ some.length_capacity-cells.ensures some.if-cells-eq0.false judged.judge-verdict.ensures
-    c.enum_told-in_default-1.given.0.0 c.enum_told-in_default-1.given.1
+    _ c.in_default.is
 
 pub total_in-total-requires : goal.total_in-total-requires
 total_in-total-requires c =
@@ -29,7 +29,7 @@ total_in-total-requires c =
     let some = judged in
     let start = some in
     let accepted =
-    load-accepted start.args.pool.now _ some.length_capacity-cells.ensures some.if-cells-eq0.false judged.judge-verdict.ensures c.enum_told-1.given.1 in
+    load-accepted start.args.pool.now _ some.length_capacity-cells.ensures some.if-cells-eq0.false judged.judge-verdict.ensures c.in-Done.is in
     (accepted-whole _ accepted).some
 
 pub returns-then-cells-total : goal.returns-then-cells-total
@@ -38,7 +38,7 @@ returns-then-cells-total c =
     let judged = told in
     let some = judged in
     let start = some in
-    load_full start.args.pool.now _ some.length_capacity-cells.ensures some.if-cells-eq0.false judged.judge-verdict.ensures told.enum_told-1.given.1
+    load_full start.args.pool.now _ some.length_capacity-cells.ensures some.if-cells-eq0.false judged.judge-verdict.ensures told.in-Done.is
     c.total_in-total.ensures.0 c.if-cells-total.true
 
 pub make_fresh-requires : goal.make_fresh-requires
@@ -60,7 +60,7 @@ add_all-requires c =
     let judgement = judged.judge-verdict.ensures in
     record {
       sized = record { some = t.sized.some; few = t.sized.few; long = size };
-      accepted = load-accepted start.args.pool.now _ some.length_capacity-cells.ensures some.if-cells-eq0.false judgement told.enum_told-1.given.1;
+      accepted = load-accepted start.args.pool.now _ some.length_capacity-cells.ensures some.if-cells-eq0.false judgement told.in-Done.is;
       counted = counted.total_in-total.ensures.0;
     }
 
@@ -75,7 +75,7 @@ returns c =
     let some = judged in
     let known = some in
     let start = known in
-    load_done start.args.pool.now _ some.length_capacity-cells.ensures some.if-cells-eq0.false judged.judge-verdict.ensures told.enum_told-1.given.1
+    load_done start.args.pool.now _ some.length_capacity-cells.ensures some.if-cells-eq0.false judged.judge-verdict.ensures told.in-Done.is
     counted.total_in-total.ensures.0 few.if-cells-total.false
-    (λ i. omega (arith, known.shared_slice_known-1.given i))
+    (λ i. omega (arith, c.type_inv.file i))
     (added.add_all.ensures ∙ ap (λ (w : List ℕ). added_all w (grants_in start.args.file.now)) made.make_fresh.ensures)

@@ -23,16 +23,16 @@ returns-in_default c =
     let start = some in
     c.refused_file.ensures
     ∙ match_file start.args.pool.now start.args.file.now some.capacity-cells.ensures some.if-cells-eq0.false judged.judge-verdict.ensures
-    told.enum_told-in_default-1.given.1
+    told.in_default.is
 
 pub first_door-requires : goal.first_door-requires
 first_door-requires c =
-    omega (arith, (accepted-whole _ (file_taken _ c.judge-verdict.ensures c.enum_told-1.given.1)).some)
+    omega (arith, (accepted-whole _ (file_taken _ c.judge-verdict.ensures c.in-Done.is)).some)
 
 pub last_door-requires : goal.last_door-requires
 last_door-requires c =
     let taken = c in
-    omega (arith, (accepted-whole _ (file_taken _ taken.judge-verdict.ensures taken.enum_told-1.given.1)).some)
+    omega (arith, (accepted-whole _ (file_taken _ taken.judge-verdict.ensures taken.in-Done.is)).some)
 
 pub find_hits-requires : goal.find_hits-requires
 find_hits-requires c =
@@ -53,20 +53,20 @@ returns-in_default-find_hits c =
     let some = judged in
     let start = some in
     match_broken start.args.pool.now start.args.file.now some.capacity-cells.ensures some.if-cells-eq0.false
-    (file_taken _ judged.judge-verdict.ensures taken.enum_told-1.given.1) first.first_door.ensures last.last_door.ensures
-    ranged.range_of_doors-range.ensures _ searched.find_hits.ensures c.enum_told-in_default-find_hits-1.given.1
+    (file_taken _ judged.judge-verdict.ensures taken.in-Done.is) first.first_door.ensures last.last_door.ensures
+    ranged.range_of_doors-range.ensures _ searched.find_hits.ensures c.in_default-find_hits.is
 
 pub sort_cells-requires : goal.sort_cells-requires
 sort_cells-requires c =
     let found = c in
-    (found-cells _ _ _ _ found.find_hits.ensures found.found-1.given.1, refl)
+    (found-cells _ _ _ _ found.find_hits.ensures found.in-Found.is, refl)
 
 pub first_difference-requires : goal.first_difference-requires
 first_difference-requires c =
     let sorted = c in
     let searched = sorted in
     let taken = searched in
-    (sorted.sort_cells.ensures.1, file_taken _ taken.judge-verdict.ensures taken.enum_told-1.given.1)
+    (sorted.sort_cells.ensures.1, file_taken _ taken.judge-verdict.ensures taken.in-Done.is)
 
 pub returns : goal.returns
 returns c =
@@ -81,6 +81,6 @@ returns c =
     let some = judged in
     let start = some in
     match_done start.args.pool.now start.args.file.now some.capacity-cells.ensures some.if-cells-eq0.false
-    (file_taken _ judged.judge-verdict.ensures taken.enum_told-1.given.1) first.first_door.ensures last.last_door.ensures
-    ranged.range_of_doors-range.ensures _ searched.find_hits.ensures found.found-1.given.1 _ sorted.sort_cells.ensures.0
+    (file_taken _ judged.judge-verdict.ensures taken.in-Done.is) first.first_door.ensures last.last_door.ensures
+    ranged.range_of_doors-range.ensures _ searched.find_hits.ensures found.in-Found.is _ sorted.sort_cells.ensures.0
     c.first_difference.ensures

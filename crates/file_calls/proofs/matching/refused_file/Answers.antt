@@ -3,4 +3,4 @@
 use Rattle.file_calls.proofs.matching.refused_file.Goals as goal
 
 pub returns-in-Refused : goal.returns-in-Refused
-returns-in-Refused c = rw c.verdict-1.given.1
+returns-in-Refused c = rw c.in-Refused.is

@@ -35,17 +35,17 @@ returns-in_default c =
     let some = forward in
     let start = some in
     write-broken start.args.pool.now _ start.args.bytes.now some.capacity-cells.ensures some.if-cells-eq0.false forward.if-door_to-door_from.false
-    ranged.range_of_doors-range.ensures _ searched.find_hits.ensures c.enum_told-1.given.1
+    ranged.range_of_doors-range.ensures _ searched.find_hits.ensures c.in_default.is
 
 pub blocks_for-needed-requires : goal.blocks_for-needed-requires
 blocks_for-needed-requires c =
     let found = c in
-    omega (arith, (found-cells _ _ _ _ found.find_hits.ensures found.found-1.given.1).few)
+    omega (arith, (found-cells _ _ _ _ found.find_hits.ensures found.in-Found.is).few)
 
 pub overflow_mul-needed : goal.overflow_mul-needed
 overflow_mul-needed c =
     let found = c in
-    omega (arith, c.blocks_for-needed.ensures, (found-cells _ _ _ _ found.find_hits.ensures found.found-1.given.1).few)
+    omega (arith, c.blocks_for-needed.ensures, (found-cells _ _ _ _ found.find_hits.ensures found.in-Found.is).few)
 
 pub returns-then-bytes-needed : goal.returns-then-bytes-needed
 returns-then-bytes-needed c =
@@ -57,13 +57,13 @@ returns-then-bytes-needed c =
     let some = forward in
     let start = some in
     write_short start.args.pool.now _ start.args.bytes.now some.capacity-cells.ensures some.if-cells-eq0.false forward.if-door_to-door_from.false
-    ranged.range_of_doors-range.ensures _ searched.find_hits.ensures found.found-1.given.1
+    ranged.range_of_doors-range.ensures _ searched.find_hits.ensures found.in-Found.is
     (ap (λ (k : ℕ). 512 * k) counted.blocks_for-needed.ensures) c.if-bytes-needed.true
 
 pub sort_cells-requires : goal.sort_cells-requires
 sort_cells-requires c =
     let found = c in
-    (found-cells _ _ _ _ found.find_hits.ensures found.found-1.given.1, refl)
+    (found-cells _ _ _ _ found.find_hits.ensures found.in-Found.is, refl)
 
 pub write_file-requires : goal.write_file-requires
 write_file-requires c =
@@ -84,5 +84,5 @@ returns c =
     let some = forward in
     let start = some in
     write_done start.args.pool.now _ start.args.bytes.now some.capacity-cells.ensures some.if-cells-eq0.false forward.if-door_to-door_from.false
-    ranged.range_of_doors-range.ensures _ searched.find_hits.ensures found.found-1.given.1
+    ranged.range_of_doors-range.ensures _ searched.find_hits.ensures found.in-Found.is
     (ap (λ (k : ℕ). 512 * k) counted.blocks_for-needed.ensures) room.if-bytes-needed.false _ sorted.sort_cells.ensures.0 wrote.write_file.ensures

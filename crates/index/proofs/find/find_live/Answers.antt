@@ -28,7 +28,7 @@ returns-in-Broken c =
     let one = two in
     let a = one.args in
     let t = pool_taken a.pool.now one.capacity-cells.ensures one.if-cells-eq0.false in
-    let number = subst (NumberFound a.pool.now a.number) c.enum_told-1.given.1 found.find_number-hit.ensures in
+    let number = subst (NumberFound a.pool.now a.number) c.in-Broken.is found.find_number-hit.ensures in
     live-broken a.pool.now _ t.right two.if-number-eq0.false number
 
 pub returns-in-Absent : goal.returns-in-Absent
@@ -38,7 +38,7 @@ returns-in-Absent c =
     let one = two in
     let a = one.args in
     let t = pool_taken a.pool.now one.capacity-cells.ensures one.if-cells-eq0.false in
-    let number = subst (NumberFound a.pool.now a.number) c.enum_told-in-Absent-1.given.1 found.find_number-hit.ensures in
+    let number = subst (NumberFound a.pool.now a.number) c.in-Absent.is found.find_number-hit.ensures in
     live_absent a.pool.now _ t.right two.if-number-eq0.false number
 
 pub returns-in-At : goal.returns-in-At
@@ -48,5 +48,5 @@ returns-in-At c =
     let one = two in
     let a = one.args in
     let t = pool_taken a.pool.now one.capacity-cells.ensures one.if-cells-eq0.false in
-    let number = subst (NumberFound a.pool.now a.number) c.hit-1.given.1 found.find_number-hit.ensures in
+    let number = subst (NumberFound a.pool.now a.number) c.in-At.is found.find_number-hit.ensures in
     live_at a.pool.now _ t.right two.if-number-eq0.false t.sized _ _ _ number

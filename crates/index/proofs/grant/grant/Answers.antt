@@ -13,7 +13,7 @@ insert-requires c =
     let start = planned in
     let a = start.args in
     let r = request a.number a.rank a.kind a.bounds in
-    let at = subst (GrantPlanned a.pool.now r) c.plan-in-At-1.given.1 planned.plan_insertion-plan.ensures in
+    let at = subst (GrantPlanned a.pool.now r) c.in-At.is planned.plan_insertion-plan.ensures in
     plan_inserts _ r _ _ _ _ _ at
 
 pub returns-in-Refused : goal.returns-in-Refused
@@ -22,7 +22,7 @@ returns-in-Refused c =
     let start = planned in
     let a = start.args in
     let r = request a.number a.rank a.kind a.bounds in
-    let at = subst (GrantPlanned a.pool.now r) c.plan-1.given.1 planned.plan_insertion-plan.ensures in
+    let at = subst (GrantPlanned a.pool.now r) c.in-Refused.is planned.plan_insertion-plan.ensures in
     grant-refused a.pool.now r _ at
 
 pub returns-in-At : goal.returns-in-At
@@ -34,5 +34,5 @@ returns-in-At c =
     let start = planned in
     let a = start.args in
     let r = request a.number a.rank a.kind a.bounds in
-    let at = subst (GrantPlanned a.pool.now r) told.plan-in-At-1.given.1 planned.plan_insertion-plan.ensures in
+    let at = subst (GrantPlanned a.pool.now r) told.in-At.is planned.plan_insertion-plan.ensures in
     grant_done a.pool.now r _ _ _ _ at (stored.insert.ensures ∙ ap (inserted _ _ _) asked.requested.ensures)

@@ -20,7 +20,7 @@ returns-in-Wrong c =
     let a = one.args in
     let r = request a.number a.rank a.kind a.bounds in
     let t = pool_taken a.pool.now one.capacity-cells.ensures one.if-cells-eq0.false in
-    grant_wrong a.pool.now r t.right checked.check_request-check.ensures told.check-1.given.1 c.fault_of.ensures
+    grant_wrong a.pool.now r t.right checked.check_request-check.ensures told.in-Wrong.is c.fault_of.ensures
 
 pub find_number-hit-requires : goal.find_number-hit-requires
 find_number-hit-requires c =
@@ -43,8 +43,8 @@ returns-in-Broken c =
     let a = one.args in
     let r = request a.number a.rank a.kind a.bounds in
     let t = pool_taken a.pool.now one.capacity-cells.ensures one.if-cells-eq0.false in
-    let number = subst (NumberFound a.pool.now a.number) c.enum_told-in-Broken-1.given.1 found.find_number-hit.ensures in
-    grant-broken a.pool.now r t.right checked.check_request-check.ensures told.enum_told-1.given.1 number
+    let number = subst (NumberFound a.pool.now a.number) c.in-Broken.is found.find_number-hit.ensures in
+    grant-broken a.pool.now r t.right checked.check_request-check.ensures told.in-Right.is number
 
 pub returns-in-At : goal.returns-in-At
 returns-in-At c =
@@ -55,8 +55,8 @@ returns-in-At c =
     let a = one.args in
     let r = request a.number a.rank a.kind a.bounds in
     let t = pool_taken a.pool.now one.capacity-cells.ensures one.if-cells-eq0.false in
-    let number = subst (NumberFound a.pool.now a.number) c.enum_told-in-At-1.given.1 found.find_number-hit.ensures in
-    grant-live a.pool.now r t.right checked.check_request-check.ensures told.enum_told-1.given.1 _ _ _ number
+    let number = subst (NumberFound a.pool.now a.number) c.in-At.is found.find_number-hit.ensures in
+    grant-live a.pool.now r t.right checked.check_request-check.ensures told.in-Right.is _ _ _ number
 
 pub returns-in-Absent : goal.returns-in-Absent
 returns-in-Absent c =
@@ -67,5 +67,5 @@ returns-in-Absent c =
     let a = one.args in
     let r = request a.number a.rank a.kind a.bounds in
     let t = pool_taken a.pool.now one.capacity-cells.ensures one.if-cells-eq0.false in
-    let number = subst (NumberFound a.pool.now a.number) c.enum_told-in-Absent-1.given.1 found.find_number-hit.ensures in
-    grant_absent a.pool.now r t.right checked.check_request-check.ensures told.enum_told-1.given.1 number _ c.plan_slot.ensures
+    let number = subst (NumberFound a.pool.now a.number) c.in-Absent.is found.find_number-hit.ensures in
+    grant_absent a.pool.now r t.right checked.check_request-check.ensures told.in-Right.is number _ c.plan_slot.ensures

@@ -8,14 +8,14 @@ pub remove-requires : goal.remove-requires
 remove-requires c =
     let planned = c in
     let a = planned.args in
-    let at = subst (RemovalPlanned a.pool.now a.number) c.removal-in-Of-1.given.1 planned.plan_removal-removal.ensures in
+    let at = subst (RemovalPlanned a.pool.now a.number) c.in-Of.is planned.plan_removal-removal.ensures in
     plan_removes a.pool.now _ _ _ _ _ _ at
 
 pub returns-in-Refused : goal.returns-in-Refused
 returns-in-Refused c =
     let planned = c in
     let a = planned.args in
-    let at = subst (RemovalPlanned a.pool.now a.number) c.removal-1.given.1 planned.plan_removal-removal.ensures in
+    let at = subst (RemovalPlanned a.pool.now a.number) c.in-Refused.is planned.plan_removal-removal.ensures in
     revoke-refused a.pool.now _ _ at
 
 pub returns-in-Of : goal.returns-in-Of
@@ -23,5 +23,5 @@ returns-in-Of c =
     let told = c in
     let planned = told in
     let a = planned.args in
-    let at = subst (RemovalPlanned a.pool.now a.number) told.removal-in-Of-1.given.1 planned.plan_removal-removal.ensures in
+    let at = subst (RemovalPlanned a.pool.now a.number) told.in-Of.is planned.plan_removal-removal.ensures in
     revoke_done a.pool.now _ _ _ _ _ _ at c.remove.ensures

@@ -3,7 +3,6 @@ use Rattle.pool.specs.Layout.{place}
 use lib.ListN.{length-set}
 use native.Mathlib.Omega.{arith}
 use mathlib.Core.Path.{refl}
-use Prim.Native.Nat.{◌-◌}
 use borrow.Author.Rules.{rules}
 use Rattle.pool.proofs.cell.store_cell.Goals as goal
 

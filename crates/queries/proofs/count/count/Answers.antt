@@ -22,7 +22,7 @@ returns-in_default c =
     let tested = ranged in
     let start = tested in
     count-broken start.args.pool.now tested.capacity-cells.ensures tested.if-cells-eq0.false
-    ranged.root_region-everything.ensures _ searched.find_hits.ensures c.enum_told-1.given.1
+    ranged.root_region-everything.ensures _ searched.find_hits.ensures c.in_default.is
 
 pub overflow_sub-result : goal.overflow_sub-result
 overflow_sub-result c =
@@ -31,7 +31,7 @@ overflow_sub-result c =
     let tested = ranged in
     let start = tested in
     count-few start.args.pool.now tested.capacity-cells.ensures tested.if-cells-eq0.false
-    ranged.root_region-everything.ensures _ searched.find_hits.ensures c.live-1.given.1
+    ranged.root_region-everything.ensures _ searched.find_hits.ensures c.in-Found.is
 
 pub returns : goal.returns
 returns c =
@@ -40,4 +40,4 @@ returns c =
     let tested = ranged in
     let start = tested in
     count_done start.args.pool.now tested.capacity-cells.ensures tested.if-cells-eq0.false
-    ranged.root_region-everything.ensures _ searched.find_hits.ensures c.live-1.given.1
+    ranged.root_region-everything.ensures _ searched.find_hits.ensures c.in-Found.is

@@ -40,12 +40,12 @@ returns-in_default c =
     let a = tested.args in
     decide-broken a.pool.now a.staff a.door a.quarter tested.capacity-cells.ensures tested.if-cells-eq0.false
     (not_failed covered.is_coverable.ensures covered.if-not-is_coverable.false-raw)
-    boxed.point_box-point.ensures _ searched.find_taken.ensures c.enum_told-1.given.1
+    boxed.point_box-point.ensures _ searched.find_taken.ensures c.in_default.is
 
 pub decide_among-requires : goal.decide_among-requires
 decide_among-requires c =
     let found = c in
-    found-cells _ _ _ _ found.find_taken.ensures found.found-1.given.1
+    found-cells _ _ _ _ found.find_taken.ensures c.in-Found.is
 
 pub returns : goal.returns
 returns c =
@@ -57,4 +57,4 @@ returns c =
     let a = tested.args in
     decide_done a.pool.now a.staff a.door a.quarter tested.capacity-cells.ensures tested.if-cells-eq0.false
     (not_failed covered.is_coverable.ensures covered.if-not-is_coverable.false-raw)
-    boxed.point_box-point.ensures _ searched.find_taken.ensures found.found-1.given.1 c.decide_among.ensures
+    boxed.point_box-point.ensures _ searched.find_taken.ensures c.in-Found.is c.decide_among.ensures

@@ -1,10 +1,10 @@
 use Prim.Native.Nat.{◌-◌}
 use mathlib.Core.Path.{sym, ◌∙◌}
-use mathlib.Core.Logic.{⊎_elim}
 use native.Mathlib.Omega.{arith}
 use Rattle.steps.proofs.HitsLaws.{cell_hit}
 use Rattle.queries.proofs.DecideLaws.{decides-none, decides_over, decides_under, decides-end}
 use Rattle.queries.proofs.decide.decide_among.Goals as goal
+use Rattle.queries.proofs.decide.decide_among.Goals.{then-outranks, else-outranks}
 
 pub returns-then-found-eq0 : goal.returns-then-found-eq0
 returns-then-found-eq0 c = decides-none _ _ c.requires c.if-found-eq0.true
@@ -27,7 +27,7 @@ loop-i-preserved c =
     let cell = found.wide-in-loop-i.ensures.0 in
     let over = decides_over _ _ cells turn.loop-i-test.true cell found.grant_at-other.ensures loop.deciding loop.invariant.1 in
     let under = decides_under _ _ cells turn.loop-i-test.true cell found.grant_at-other.ensures loop.deciding loop.invariant.1 in
-    (omega arith, ⊎_elim (λ w. rw w.1 (over (sym o ∙ w.0.taken))) (λ w. rw w.1 (under (sym o ∙ w.0.left))) c.if-outranks.branch)
+    (omega arith, elim c.if-outranks.branch [ then-outranks w ↦ rw w.deciding-is (over (sym o ∙ w.if-outranks.true)) | else-outranks w ↦ rw w.deciding-is (under (sym o ∙ w.if-outranks.false)) ])
 
 pub returns : goal.returns
 returns c =

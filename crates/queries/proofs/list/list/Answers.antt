@@ -33,7 +33,7 @@ returns-in_default c =
     let tested = forward in
     let a = tested.args in
     list-broken a.pool.now a.bounds a.choice a.list.now tested.capacity-cells.ensures tested.if-cells-eq0.false
-    tested.is_reversed.ensures forward.if-is_reversed.false _ searched.find_taken.ensures c.enum_told-1.given.1
+    tested.is_reversed.ensures forward.if-is_reversed.false _ searched.find_taken.ensures c.in_default.is
 
 pub returns-then-list-found : goal.returns-then-list-found
 returns-then-list-found c =
@@ -42,7 +42,7 @@ returns-then-list-found c =
     let tested = forward in
     let a = tested.args in
     list_short a.pool.now a.bounds a.choice a.list.now tested.capacity-cells.ensures tested.if-cells-eq0.false
-    tested.is_reversed.ensures forward.if-is_reversed.false _ searched.find_taken.ensures c.found-1.given.1 c.if-list-found.true
+    tested.is_reversed.ensures forward.if-is_reversed.false _ searched.find_taken.ensures c.in-Found.is c.if-list-found.true
 
 pub slice_bounds-write_numbers-end-2 : goal.slice_bounds-write_numbers-end-2
 slice_bounds-write_numbers-end-2 c = sym (length-take-le _ _ c.if-list-found.false)
@@ -50,7 +50,7 @@ slice_bounds-write_numbers-end-2 c = sym (length-take-le _ _ c.if-list-found.fal
 pub write_numbers-requires : goal.write_numbers-requires
 write_numbers-requires c =
     let found = c in
-    let cells = found-cells _ _ _ _ found.find_taken.ensures found.found-1.given.1 in
+    let cells = found-cells _ _ _ _ found.find_taken.ensures c.in-Found.is in
     cells-part cells _ c.if-list-found.false
 
 pub returns : goal.returns
@@ -61,5 +61,5 @@ returns c =
     let tested = forward in
     let a = tested.args in
     list_done a.pool.now a.bounds a.choice a.list.now tested.capacity-cells.ensures tested.if-cells-eq0.false
-    tested.is_reversed.ensures forward.if-is_reversed.false _ searched.find_taken.ensures room.found-1.given.1
+    tested.is_reversed.ensures forward.if-is_reversed.false _ searched.find_taken.ensures c.in-Found.is
     room.if-list-found.false c.write_numbers.ensures

@@ -1,6 +1,6 @@
 -- `insertion::add` meets its contract: what was planned is stored. Assumes nothing.
 use Prim.Native.Nat.{ℕ}
-use mathlib.Core.Path.{◌≡◌, sym, ap, ◌∙◌}
+use mathlib.Core.Path.{◌≡◌, refl, sym, ap, ◌∙◌}
 use Rattle.model.specs.declared.Grant.{Grant}
 use Rattle.model.specs.Kind.{kind_number}
 use Rattle.model.specs.Call.{request, request_of}
@@ -19,7 +19,7 @@ insert-requires c =
     let a = kinded.args in
     let same = same-request a.g kinded.kind_number.ensures.0 in
     plan_inserts a.pool.now (request_of a.g) _ _ _ _ _
-    (planned_as a.pool.now same c.plan-1.given.1 planned.plan_slot-plan.ensures)
+    (planned_as a.pool.now same refl c.in-At.ensures)
 
 pub returns-in-Refused : goal.returns-in-Refused
 returns-in-Refused c =
@@ -27,7 +27,7 @@ returns-in-Refused c =
     let kinded = planned in
     let a = kinded.args in
     let same = same-request a.g kinded.kind_number.ensures.0 in
-    added-refused a.pool.now (request_of a.g) _ (planned_as a.pool.now same c.enum_told-1.given.1 planned.plan_slot-plan.ensures)
+    added-refused a.pool.now (request_of a.g) _ (planned_as a.pool.now same refl c.in-Refused.ensures)
 
 pub returns-in-At : goal.returns-in-At
 returns-in-At c =
@@ -37,5 +37,5 @@ returns-in-At c =
     let kinded = planned in
     let a = kinded.args in
     let same = same-request a.g kinded.kind_number.ensures.0 in
-    added_done a.pool.now (request_of a.g) _ _ _ _ (planned_as a.pool.now same told.plan-1.given.1 planned.plan_slot-plan.ensures)
+    added_done a.pool.now (request_of a.g) _ _ _ _ (planned_as a.pool.now same refl c.in-At.ensures)
     (stored.insert.ensures ∙ ap (inserted a.pool.now _ _) (sym (requested-request_of a.g)))
