@@ -136,6 +136,7 @@ further_past g s best h e = rw e (omega (arith, ((overrides_iff g s h).0 e).1.en
 
 reach_past : (g : Grant) (s best : ℕ) (hs : List Grant) (h : Grant) → Memᴰ h hs → overrides g s h ≡ true → s < reach g s best hs
 unfolding reach
+reach_past g s best [] h m e = elim m [ ]
 reach_past g s best (x ∷ hs) h (Memᴰ.head q) e =
     omega (arith, further_past g s best x (sym (ap (overrides g s) q) ∙ e), reach_grows g s (further g s best x) hs)
 reach_past g s best (x ∷ hs) h (Memᴰ.tail m) e = reach_past g s (further g s best x) hs h m e

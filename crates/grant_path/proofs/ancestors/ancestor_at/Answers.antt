@@ -8,14 +8,14 @@ pub ancestor_from-requires : goal.ancestor_from-requires
 ancestor_from-requires c =
     let found = c in
     let a = found.args in
-    let at = subst (LiveFound a.pool.now a.number) c.hit-in-At-1.given.1 found.find_live-hit.ensures in
+    let at = subst (LiveFound a.pool.now a.number) c.in-At.is found.find_live-hit.ensures in
     path-starts a.pool.now a.number a.i _ _ _ _ at
 
 pub returns-in-Refused : goal.returns-in-Refused
 returns-in-Refused c =
     let found = c in
     let a = found.args in
-    let at = subst (LiveFound a.pool.now a.number) c.hit-1.given.1 found.find_live-hit.ensures in
+    let at = subst (LiveFound a.pool.now a.number) c.in-Refused.is found.find_live-hit.ensures in
     path-refused a.pool.now a.number a.i _ at
 
 pub returns-in-At : goal.returns-in-At
@@ -23,5 +23,5 @@ returns-in-At c =
     let told = c in
     let found = told in
     let a = found.args in
-    let at = subst (LiveFound a.pool.now a.number) told.hit-in-At-1.given.1 found.find_live-hit.ensures in
+    let at = subst (LiveFound a.pool.now a.number) told.in-At.is found.find_live-hit.ensures in
     path_done a.pool.now a.number a.i _ _ _ _ at c.ancestor_from.ensures

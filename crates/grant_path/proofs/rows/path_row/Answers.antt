@@ -5,6 +5,7 @@ use Rattle.grant_path.proofs.rows.path_row.Goals as goal
 
 pub returns : goal.returns
 returns c =
-    let columns = c in
-    put_line (put_then columns.put_columns-next.ensures.0 c.put_row.ensures.0)
-    (omega (arith, columns.put_columns-next.ensures.1, c.put_row.ensures.1, c.put_row.auto.out))
+    let row =
+    put_line (put_then c.put_columns-next.ensures.0 c.put_row.ensures.0)
+    (omega (arith, c.put_columns-next.ensures.1, c.put_row.ensures.1, c.put_row.auto.out)) in
+    record { out_after = row.0; counts = row.1 }

@@ -7,4 +7,5 @@ pub returns : goal.returns
 returns c =
     let question = c.put_question-at.ensures in
     let decision = c.put_decision in
-    put_line (put_then question.0 decision.ensures.0) (omega (arith, question.1, decision.ensures.1, decision.auto.out))
+    let answer = put_line (put_then question.0 decision.ensures.0) (omega (arith, question.1, decision.ensures.1, decision.auto.out)) in
+    record { out_after = answer.0; counts = answer.1 }

@@ -4,4 +4,6 @@ use Rattle.text.proofs.PutLaws.{put_line}
 use Rattle.panel.proofs.rows.heads_row.Goals as goal
 
 pub returns : goal.returns
-returns c = put_line c.put_heads.ensures.0 (omega (arith, c.put_heads.ensures.1, c.put_heads.auto.out))
+returns c =
+    let row = put_line c.put_heads.ensures.0 (omega (arith, c.put_heads.ensures.1, c.put_heads.auto.out)) in
+    record { out_after = row.0; counts = row.1 }

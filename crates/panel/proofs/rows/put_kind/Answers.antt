@@ -5,9 +5,9 @@ use Rattle.panel.proofs.rows.put_kind.Goals as goal
 pub returns-in-Bars : goal.returns-in-Bars
 returns-in-Bars c =
     let put = c in
-    (rw put.enum_told-1.given.1 put.put_text.ensures, omega (arith, put.put_text.ensures.ends))
+    (rw put.in-Bars.is put.put_text.ensures, omega (arith, put.put_text.ensures.ends))
 
 pub returns-in-Opens : goal.returns-in-Opens
 returns-in-Opens c =
     let put = c in
-    (rw put.enum_told-in-Opens-1.given.1 put.put_text-in-Opens.ensures, omega (arith, put.put_text-in-Opens.ensures.ends))
+    (rw put.in-Opens.is put.put_text-in-Opens.ensures, omega (arith, put.put_text-in-Opens.ensures.ends))

@@ -12,7 +12,7 @@ put_moment-requires c =
     let start = day in
     record {
       room = start.requires.0;
-      year = shown-year start.args.base day.shown_base-shown.ensures day.shown-1.given.1;
+      year = shown-year start.args.base day.shown_base-shown.ensures day.in-Day.is;
       quarter = start.requires.1;
     }
 
@@ -22,7 +22,7 @@ returns-in-Unknown c =
     let told = put in
     let start = told in
     let shown = told.shown_base-shown.ensures in (
-      put_as (shown_is start.args.base shown (λ (x : Base). moment_column x start.args.quarter) told.enum_told-1.given.1) put.put_text.ensures,
+      put_as (shown_is start.args.base shown (λ (x : Base). moment_column x start.args.quarter) told.in-Unknown.is) put.put_text.ensures,
       omega (arith, put.put_text.ensures.ends),
     )
 
@@ -32,6 +32,6 @@ returns-in-Day c =
     let day = put in
     let start = day in
     let shown = day.shown_base-shown.ensures in (
-      put_as (shown_is start.args.base shown (λ (x : Base). moment_column x start.args.quarter) day.shown-1.given.1) put.put_moment.ensures,
+      put_as (shown_is start.args.base shown (λ (x : Base). moment_column x start.args.quarter) day.in-Day.is) put.put_moment.ensures,
       omega (arith, put.put_moment.ensures.ends),
     )

@@ -10,13 +10,13 @@ pub put_times_from-requires : goal.put_times_from-requires
 put_times_from-requires c =
     let day = c in
     let start = day in
-    (start.requires, shown-year start.args.base day.shown_base-shown.ensures day.shown-1.given.1)
+    (start.requires, shown-year start.args.base day.shown_base-shown.ensures day.in-Day.is)
 
 pub returns-in-Unknown : goal.returns-in-Unknown
 returns-in-Unknown c =
     let start = c in
     let shown = c.shown_base-shown.ensures in (
-      put_as (shown_is start.args.base shown (λ (x : Base). times_from x start.args.g) c.enum_told-1.given.1) (put_none _ _),
+      put_as (shown_is start.args.base shown (λ (x : Base). times_from x start.args.g) c.in-Unknown.is) (put_none _ _),
       omega arith,
     )
 
@@ -26,6 +26,6 @@ returns-in-Day c =
     let day = times in
     let start = day in
     let shown = day.shown_base-shown.ensures in (
-      put_as (shown_is start.args.base shown (λ (x : Base). times_from x start.args.g) day.shown-1.given.1) times.put_times_from.ensures.0,
+      put_as (shown_is start.args.base shown (λ (x : Base). times_from x start.args.g) day.in-Day.is) times.put_times_from.ensures.0,
       omega (arith, times.put_times_from.ensures.1),
     )

@@ -9,26 +9,20 @@ use Rattle.panel.proofs.rows.touching_row.Goals as goal
 
 pub returns : goal.returns
 returns c =
-    let precedence = c in
-    let kind = precedence in
-    let second = kind in
-    let moment = second in
-    let first = moment in
-    let columns = first in
-    let args = columns.args in
-    let until = put_as (ap (moment_column (shown_base args.base)) moment.wide.ensures.0) moment.put_moment_column-next.ensures.0 in
-    let timed = put_then (put_then (put_then columns.put_columns-gap.ensures.0 first.put_text-until.ensures) until) second.put_text-word.ensures in
-    let row = put_then (put_then timed kind.put_kind-but.ensures.0) precedence.put_precedence-end.ensures.0 in
+    let until = put_as (ap (moment_column (shown_base c.args.base)) c.wide.ensures.0) c.put_moment_column-next.ensures.0 in
+    let timed = put_then (put_then (put_then c.put_columns-gap.ensures.0 c.put_text-until.ensures) until) c.put_text-word.ensures in
+    let row = put_then (put_then timed c.put_kind-but.ensures.0) c.put_precedence-end.ensures.0 in
+    let line =
     put_line (put_then row c.put_byte.ensures)
     (omega (
       arith,
-      columns.put_columns-gap.ensures.1,
-      first.put_text-until.ensures.ends,
-      moment.put_moment_column-next.ensures.1,
-      second.put_text-word.ensures.ends,
-      kind.put_kind-but.ensures.1,
-      precedence.put_precedence-end.ensures.1,
+      c.put_columns-gap.ensures.1,
+      c.put_text-until.ensures.ends,
+      c.put_moment_column-next.ensures.1,
+      c.put_text-word.ensures.ends,
+      c.put_kind-but.ensures.1,
+      c.put_precedence-end.ensures.1,
       c.put_byte.ensures.ends,
       c.put_byte.auto.out,
-      c.put_byte-arg-1.given,
-    ))
+    )) in
+    record { out_after = line.0; counts = line.1 }

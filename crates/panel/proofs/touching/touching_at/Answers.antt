@@ -1,7 +1,6 @@
 -- `touching::touching_at` meets its contract, test by test. Assumes nothing.
-use mathlib.Core.Path.{refl}
+use mathlib.Core.Path.{refl, sym, ◌∙◌}
 use native.Mathlib.Omega.{arith}
-use Rattle.lists.proofs.TestLaws.{not_passed, not_failed}
 use Rattle.model.proofs.QuarterLaws.{coverable-below}
 use Rattle.calls.proofs.RefusalSteps.{pool_taken}
 use Rattle.steps.proofs.HitsLaws.{found-cells}
@@ -19,10 +18,10 @@ returns-then-not-is_coverable c =
     let tested = asked in
     let a = tested.args in
     touching_late a.pool.now a.door a.quarter a.i tested.capacity-cells.ensures tested.if-cells-eq0.false
-    (not_passed asked.is_coverable.ensures c.if-not-is_coverable.true-raw)
+    (sym asked.is_coverable.ensures ∙ c.if-not-is_coverable.true)
 
 pub door_box-bounds-requires : goal.door_box-bounds-requires
-door_box-bounds-requires c = coverable-below _ (not_failed c.is_coverable.ensures c.if-not-is_coverable.false-raw)
+door_box-bounds-requires c = coverable-below _ (sym c.is_coverable.ensures ∙ c.if-not-is_coverable.false)
 
 pub find_taken-requires : goal.find_taken-requires
 find_taken-requires c =
@@ -39,13 +38,13 @@ returns-in_default c =
     let tested = covered in
     let a = tested.args in
     touching-broken a.pool.now a.door a.quarter a.i tested.capacity-cells.ensures tested.if-cells-eq0.false
-    (not_failed covered.is_coverable.ensures covered.if-not-is_coverable.false-raw)
-    boxed.door_box-bounds.ensures _ searched.find_taken.ensures c.enum_told-1.given.1
+    (sym covered.is_coverable.ensures ∙ covered.if-not-is_coverable.false)
+    boxed.door_box-bounds.ensures _ searched.find_taken.ensures c.in_default.is
 
 pub sorted_placed-requires : goal.sorted_placed-requires
 sorted_placed-requires c =
     let found = c in
-    found-cells _ _ _ _ found.find_taken.ensures found.found-1.given.1
+    found-cells _ _ _ _ found.find_taken.ensures found.in-Found.is
 
 pub returns : goal.returns
 returns c =
@@ -56,6 +55,6 @@ returns c =
     let tested = covered in
     let a = tested.args in
     touching_done a.pool.now a.door a.quarter a.i tested.capacity-cells.ensures tested.if-cells-eq0.false
-    (not_failed covered.is_coverable.ensures covered.if-not-is_coverable.false-raw)
-    boxed.door_box-bounds.ensures _ searched.find_taken.ensures found.found-1.given.1
+    (sym covered.is_coverable.ensures ∙ covered.if-not-is_coverable.false)
+    boxed.door_box-bounds.ensures _ searched.find_taken.ensures found.in-Found.is
     c.sorted_placed.ensures

@@ -1,7 +1,6 @@
 use Prim.Native.Nat.{◌-◌}
 use mathlib.Core.Path.{sym, ◌∙◌}
 use native.Mathlib.Omega.{arith}
-use borrow.Author.Tests.{not-true, not-false}
 use Rattle.steps.proofs.HitsLaws.{grants_from}
 use Rattle.precedence.proofs.PrecedenceWalkLaws.{passed_none, passed_reach, walk_whole, walk_partly, walk_nowhere}
 use Rattle.precedence.proofs.overriding.precedence_among.Goals as goal
@@ -10,7 +9,7 @@ pub returns-then-not-overridden_some : goal.returns-then-not-overridden_some
 returns-then-not-overridden_some c =
     let start = c in
     walk_whole (grants_from start.args.pool.now start.args.hits.now start.args.found 0) start.args.g
-    (sym c.overridden_some.ensures ∙ not-true _ c.if-not-overridden_some.true-raw)
+    (sym c.overridden_some.ensures ∙ c.if-not-overridden_some.true)
 
 pub loop-staff-init : goal.loop-staff-init
 loop-staff-init c =
@@ -26,7 +25,7 @@ returns-then-next-staff c =
     let overridden = to in
     let start = overridden in
     walk_partly (grants_from start.args.pool.now start.args.hits.now start.args.found 0) start.args.g
-    (sym overridden.overridden_some.ensures ∙ not-false _ to.if-not-overridden_some.false-raw) turn.loop-staff.staff c.reach-next.result
+    (sym overridden.overridden_some.ensures ∙ to.if-not-overridden_some.false) turn.loop-staff.staff c.reach-next.result
     turn.loop-staff.invariant.0 (omega (arith, turn.loop-staff-test.true, to.wide-to.ensures.0)) c.reach-next.ensures c.if-next-staff.true
 
 pub loop-staff-preserved : goal.loop-staff-preserved
@@ -45,5 +44,5 @@ returns c =
     let overridden = to in
     let start = overridden in
     walk_nowhere (grants_from start.args.pool.now start.args.hits.now start.args.found 0) start.args.g
-    (sym overridden.overridden_some.ensures ∙ not-false _ to.if-not-overridden_some.false-raw) c.loop-staff.staff c.loop-staff.invariant.1
+    (sym overridden.overridden_some.ensures ∙ to.if-not-overridden_some.false) c.loop-staff.staff c.loop-staff.invariant.1
     (omega (arith, c.loop-staff-test.false, to.wide-to.ensures.0))
