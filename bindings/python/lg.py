@@ -118,7 +118,7 @@ class Refused(Exception):
 
 
 _MAKE = (
-    "`rt staticlib c_api` in the repository and then its script bindings/python/build make target/python/liblg.so there;"
+    "`tools/build c_api` in the repository and then its script bindings/python/build make target/python/liblg.so there;"
     " the environment variable LG_LIBRARY names one elsewhere"
 )
 

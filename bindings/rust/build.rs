@@ -1,4 +1,4 @@
-//! Links `libc_api.a`, the archive that `rt staticlib c_api` makes, from the folder LG_LIB_DIR or else from the repository's
+//! Links `libc_api.a`, the archive that `tools/build c_api` makes, from the folder LG_LIB_DIR or else from the repository's
 //! target/staticlib. Where it isn't there, a warning says how to make it.
 
 use std::env;
@@ -12,7 +12,7 @@ fn main() {
     let archive = folder.join("libc_api.a");
     if !archive.is_file() {
         println!(
-            "cargo:warning=there is no {}: `rt staticlib c_api` in the repository makes target/staticlib/libc_api.a there; the \
+            "cargo:warning=there is no {}: `tools/build c_api` in the repository makes target/staticlib/libc_api.a there; the \
              environment variable LG_LIB_DIR names another folder that has it",
             archive.display()
         );

@@ -283,7 +283,7 @@ def try_library(path):
     environment = dict(os.environ, LG_LIBRARY=path, PYTHONPATH=MODULE)
     tried = subprocess.run([sys.executable, "-c", "import lg"], env=environment, stderr=subprocess.PIPE, text=True)
     said = tried.stderr.strip().splitlines()[-1:]
-    parts = ("ImportError", path, "rt staticlib c_api", "bindings/python/build", "LG_LIBRARY")
+    parts = ("ImportError", path, "tools/build c_api", "bindings/python/build", "LG_LIBRARY")
     check(said and all(part in said[0] for part in parts), "import without a library at %s says: %s" % (path, said))
 
 

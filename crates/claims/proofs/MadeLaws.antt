@@ -46,7 +46,7 @@ unfolding after
 made_after [] fit made = made
 made_after {c} {w} {gs} (call ∷ calls) fit made =
     subst (λ (b : Book). Made c (after words_step (words_step w call).state calls) (after book_step b calls).live) (sym (step_book c gs call))
-    (made_after calls (λ d m. fit d (Memᴰ.tail m)) (made_call call (fit call (Memᴰ.head refl)) made))
+    (made_after {w = (words_step w call).state} calls (λ d m. fit d (Memᴰ.tail m)) (made_call call (fit call (Memᴰ.head refl)) made))
 
 pub made_calls : {c : ℕ} {memory : List ℕ} → Memory c memory → (calls : List Call) → CallsFit calls → Made c (words_after memory calls) (live_after c calls)
 made_calls m calls fit = made_after calls fit (made-start m)

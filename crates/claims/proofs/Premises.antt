@@ -92,6 +92,7 @@ calls = grant (request_of seven) ∷ grant (request_of broken) ∷ []
 
 -- what holds of each of two holds of all
 both : {A : Type 0} (P : A → Type 0) {x y : A} → P x → P y → (z : A) → Memᴰ z (x ∷ y ∷ []) → P z
+both {A = A} P {y = y} p q z (Memᴰ.tail (Memᴰ.tail x9)) = elim x9 [ ]
 both P p q z (Memᴰ.head e) = subst P (sym e) p
 both P p q z (Memᴰ.tail (Memᴰ.head e)) = subst P (sym e) q
 

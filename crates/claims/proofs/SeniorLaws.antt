@@ -55,6 +55,7 @@ module _ (b : Book) (r : Request) where
         record { number = (let some = eqb-false r.number 0 p in omega arith); kind = ltb-false 1 r.kind q; order = t },
         (λ s. true≢false (sym low ∙ (senior_iff r.rank (doors_of r.bounds)).1 s)),
       )
+      there (first_later p (first_later q (first_later t (first_later u (first_later v (first_later _ e)))))) = elim e [ ]
       there (first_here p same) = absurd (omega (arith, ap fault_number same))
       there (first_later p (first_here q same)) = absurd (omega (arith, ap fault_number same))
       there (first_later p (first_later q (first_here t same))) = absurd (omega (arith, ap fault_number same))

@@ -25,6 +25,8 @@ pub const ENOSPC: i32 = 28;
 
 pub const EROFS: i32 = 30;
 
+pub const EPIPE: i32 = 32;
+
 pub const ENAMETOOLONG: i32 = 36;
 
 pub const ELOOP: i32 = 40;

@@ -35,13 +35,20 @@ pub fn warnings(rt: HostRuntime) -> Stream {
     }
 }
 
+// Where nobody reads the answer any more, as under `| head`, nothing is said.
+fn warn_broken(rt: HostRuntime, error: i32) {
+    if error != errors::EPIPE {
+        warn(rt, b"grants: the answer could not be written whole: ");
+        warn_reason(rt, error);
+    }
+}
+
 // The stream after a piece that could not be written.
 fn broken(to: Stream, error: io::Error) -> Stream {
     let rt = to.rt;
     let side = to.side;
     if let Side::Answers = side {
-        warn(rt, b"grants: the answer could not be written whole: ");
-        warn_reason(rt, number_of(error));
+        warn_broken(rt, number_of(error));
     }
     Stream {
         rt,
