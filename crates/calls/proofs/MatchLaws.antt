@@ -34,7 +34,7 @@ use Rattle.model.proofs.JudgedLaws.{none_of_iff}
 use Rattle.pool.specs.Capacity.{wrong_pool}
 use Rattle.grants_file.specs.File.{file_of}
 use Rattle.grants_file.specs.Verdict.{file_causes}
-use Rattle.grants_file.specs.FileSets.{FileSet, SameGrants, InOneAlone, DiffersAt, LeastDifference}
+use Rattle.grants_file.specs.FileSets.{FileSet, InOneAlone, DiffersAt, LeastDifference}
 use Rattle.grants_file.proofs.FileLaws.{doors_in-file_of, grants_in-file_of}
 use Rattle.grants_file.proofs.VerdictLaws.{file_of-accepted}
 use Rattle.grants_file.proofs.SetLaws.{alone-differs, equal-same, set_rises}
@@ -147,7 +147,7 @@ least_one {m} {n} k l = go (dec_lt m n) (dec_lt n m)
     go (no h) (no i) = omega arith
 
 module _ {hs gs : List Grant} where
-  pub same_iff : {r : Matched} → Compared hs gs r → (r ≡ Equal) ↔ SameGrants gs hs
+  pub same_iff : {r : Matched} → Compared hs gs r → (r ≡ Equal) ↔ ((g : Grant) → Memᴰ g gs ↔ Memᴰ g hs)
   same_iff (compared_same e) = (λ _. equal-same e, λ _. refl)
   same_iff (compared_differs l) = ((λ e. let z : ◌≡◌ {A = ℕ} 0 1 = cc in absurd (omega arith)), λ same. absurd (alone-differs l.differs.alone same))
 
@@ -180,7 +180,7 @@ module _ {w : List ℕ} {b : Book} (h : Represents w b) {doors : Interval} {gs :
   answer_iff : (r : Matched) → ((match_call w (file_of doors gs)).answer ≡ matched_answer r) ↔ (first_difference found gs ≡ r)
   answer_iff r = ((λ e. matched_answer_injective (first_difference found gs) r (sym match_set ∙ e)), λ e. match_set ∙ ap matched_answer e)
 
-  pub match_equal : ((match_call w (file_of doors gs)).answer ≡ accepted []) ↔ SameGrants gs found
+  pub match_equal : ((match_call w (file_of doors gs)).answer ≡ accepted []) ↔ ((g : Grant) → Memᴰ g gs ↔ Memᴰ g found)
   match_equal = ((λ e. (same_iff compared).0 ((answer_iff Equal).0 e)), λ same. (answer_iff Equal).1 ((same_iff compared).1 same))
 
   pub match_differs : (n : ℕ) → ((match_call w (file_of doors gs)).answer ≡ accepted (n ∷ [])) ↔ LeastDifference n gs found
