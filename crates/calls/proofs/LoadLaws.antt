@@ -107,7 +107,8 @@ grant_all_represents {w} {b} (g ∷ gs) h each (distinct_more n d) room =
     let put = put_append_right gs (put_insert_by grant_number g live) in
     let apart = perm_distinct (perm_map grant_number (put_perm put)) (distinct_more n d) in
     rw (sort_by_put grant_number put apart) at
-    (grant_all_represents {w = (grant_call w (request_of g)).state} {b = with_live b (insert_by grant_number g live)} gs added (λ x m. each x (Memᴰ.tail m)) apart (omega (arith, length_put (put_insert_by grant_number g live))))
+    (grant_all_represents {w = (grant_call w (request_of g)).state} {b = with_live b (insert_by grant_number g live)} gs added
+    (λ x m. each x (Memᴰ.tail m)) apart (omega (arith, length_put (put_insert_by grant_number g live))))
 
 module _ {doors : Interval} {gs : List Grant} (s : FileSet doors gs) where
   pub set_grantable : (g : Grant) → Memᴰ g gs → Grantable g

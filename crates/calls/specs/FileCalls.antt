@@ -1,5 +1,5 @@
 -- What write, load and match answer and leave, on any words and bytes (document 01, "The grants file" and "Faults"). Block read's two calls,
--- which know of no pool, are `blockCall` and `part_at` of block_read/specs/BlockRead.
+-- which know of no pool, are `block_call` and `part_at` of block_read/specs/BlockRead.
 --   write_call w doors lent    the lent bytes after it; on a scrambled pool the grants hit, sorted, with repetition
 --   load_call w f              start, then grants in file order; C comes from the pool's length
 --   match_call w f             equal, or the lowest number at which the pool's grants touching the file's doors and the file differ

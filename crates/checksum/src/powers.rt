@@ -1,5 +1,5 @@
 // The table of powers (document 02, card 5; document 01, "The shape each place takes"): entry i is power i of 256 modulo 65521. Its rule is
-// `isTable` (specs/PowerTable).
+// `is_table` (specs/PowerTable).
 pub const ENTRIES: usize = 510;
 
 pub const POWERS: [u16; ENTRIES] = [

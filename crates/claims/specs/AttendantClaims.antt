@@ -1,5 +1,5 @@
 -- What the attendant reads (document 01, "The plain book": decide): the panel's answer to `may` is the text of the plain book's decision.
---   book_decision gs staff door quarter    what the book of the live grants gs decides; bookDecide gives it in document 01's numbers
+--   book_decision gs staff door quarter    what the book of the live grants gs decides; book_decide gives it in document 01's numbers
 --   ShowsDecision w gs     whatever decision has decide's answer on the words w, its text is that of the book's decision, for any base day
 --   AttendantClaim         so it is on every pool that start, or load of an accepted file, and any calls after it made
 -- That a decision has decide's answer is the contract of `decide` (queries/src/decide); that the panel shows its text is that of `may_text`

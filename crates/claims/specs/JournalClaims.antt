@@ -3,7 +3,7 @@
 --   Replayed c memory lines    of one index and one journal
 --   JournalsReplay             on every fresh index of c cells, c from 1 to 2,048, whatever its memory held, every list of lines
 --   JournalsRespond               where every line is a grant or a revoke slip, the lines come to the responses to the list of their calls
--- A line is any list of numbers, so any bytes; the contract of `replay_line` says that the code makes a line's `journalStep` with `words_step`.
+-- A line is any list of numbers, so any bytes; the contract of `replay_line` says that the code makes a line's `journal_step` with `words_step`.
 use Rattle.std.specs.Prelude.{ℕ, ◌≡◌}
 use mathlib.Core.List.{List, map, Memᴰ}
 use Rattle.model.specs.Call.{Call}

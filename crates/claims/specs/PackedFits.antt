@@ -1,10 +1,10 @@
 -- When the values of an answer fit the bits of the word that they are packed into (Pack), and the claim that those of every call do.
 --   FitsRefusal number values    the number, which is not that of an accepted answer, and the value beside it
 --   Fits answer                  for pack: of an accepted answer the first value, as a
---   FitsPair answer              for packPair: the first value as a, the second as b
---   FitsLength answer            for packLength: the first value as b
---   FitsThree answer             for packThree: the first value as a, the second and the third as the halves of b
---   FitsPart f i                 for packPart: the length of block i's part as a, the place where it starts as b
+--   FitsPair answer              for pack_pair: the first value as a, the second as b
+--   FitsLength answer            for pack_length: the first value as b
+--   FitsThree answer             for pack_three: the first value as a, the second and the third as the halves of b
+--   FitsPart f i                 for pack_part: the length of block i's part as a, the place where it starts as b
 --   AnswersFit                   the claim: each C function's answer fits its packing, on any memory and whatever is asked
 -- Assumes nothing: these are definitions.
 use Rattle.std.specs.Prelude.{ℕ, ◌<◌, cond, List, eqb}

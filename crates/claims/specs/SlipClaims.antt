@@ -3,7 +3,7 @@
 --   SlipsPrint    on every fresh index of c cells, c from 1 to 2,048, whatever its memory held, with every lent list, every list of lines,
 --                 good and bad, prints what the empty book of c prints
 --   SlipsTouch    a slip's L stands for list under touching; `session_text` goes by it, for the words and for the book
--- A line is any list of numbers, so any bytes; the contract of `answer` says that the code prints a line's `lineStep` with `words_step`.
+-- A line is any list of numbers, so any bytes; the contract of `answer` says that the code prints a line's `line_step` with `words_step`.
 use Rattle.std.specs.Prelude.{ℕ, ◌≡◌, List}
 use Rattle.std.proofs.Math.Option.{some}
 use Rattle.model.specs.declared.Box.{Box}

@@ -62,7 +62,8 @@ grant_all-added {w} {b} (g ∷ gs) h each (distinct_more n d) room =
     let added = (grant_adds h g grantable new (omega arith)).1 in
     let put = put_append_right gs (put_insert_by grant_number g live) in
     let apart = perm_distinct (perm_map grant_number (put_perm put)) (distinct_more n d) in
-    grant_all-added {w = (grant_call w (request_of g)).state} {b = with_live b (insert_by grant_number g live)} gs added (λ x m. each x (Memᴰ.tail m)) apart (omega (arith, length_put (put_insert_by grant_number g live)))
+    grant_all-added {w = (grant_call w (request_of g)).state} {b = with_live b (insert_by grant_number g live)} gs added
+    (λ x m. each x (Memᴰ.tail m)) apart (omega (arith, length_put (put_insert_by grant_number g live)))
     ∙ ap (λ (v : List ℕ). added_all v gs) (grant-added h g grantable new)
 
 pub file_added : (f : List ℕ) → Below byte_values f → Accepted f → (c : ℕ) → 1 ≤ c → c ≤ max_grants → total_in f ≤ c

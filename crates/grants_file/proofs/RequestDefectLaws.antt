@@ -1,4 +1,4 @@
--- Laws of what is wrong in a record as in a request for its grant (specs/Defects `requestDefects`; model/specs/Arguments). They hold of every
+-- Laws of what is wrong in a record as in a request for its grant (specs/Defects `request_defects`; model/specs/Arguments). They hold of every
 -- list of faults that a request may have, so a fault that is added to grant's arguments changes none of them.
 --   check_defect i k n c d   the defect by what a check of the record's values found, d where they are right
 --   first_wrong-defect       the first defect of a row that begins with them

@@ -8,7 +8,7 @@
 --   record_defects, records_defects  in record k of block i, counted from 1, and in its records from the k-th on
 --   block_defects f i, file_defects f    all of block i, the start first, and all of a file
 --   defect_fault x                  the fault that a defect stands for
---   first_defect cs                 the first that is there, Sound where none is; by `defectFault-first` of proofs/DefectLaws it is the first fault's
+--   first_defect cs                 the first that is there, Sound where none is; by `defect_fault-first` of proofs/DefectLaws it is the first fault's
 --   defect_in f                     what is wrong in a file
 -- Assumes nothing: these are definitions.
 use Rattle.std.specs.Prelude.{ℕ, zero, suc, ◌-◌, Bool, true, false, cond, not, ◌&&◌, leb, ltb, eqb}

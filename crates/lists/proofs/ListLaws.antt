@@ -167,7 +167,8 @@ parts_flat_map f w [] zs h = refl
 parts_flat_map {A} {B} f w (x ∷ xs) zs h =
     ap₂ ◌∷◌
     (rw (mul-zero, append_assoc) (take_at (f x) (flat_map f xs ++ zs) w (h x)))
-    (rw (count_from_suc 0 (length xs), map-map (λ i. take w (drop (w * i) ((f x ++ flat_map f xs) ++ zs))) suc) (map_same _ _ (count_from 0 (length xs)) (λ i j. further i) ∙ parts_flat_map f w xs zs h))
+    (rw (count_from_suc 0 (length xs), map-map (λ i. take w (drop (w * i) ((f x ++ flat_map f xs) ++ zs))) suc)
+    (map_same _ _ (count_from 0 (length xs)) (λ i j. further i) ∙ parts_flat_map f w xs zs h))
   where
     further : (i : ℕ) → take w (drop (w * suc i) ((f x ++ flat_map f xs) ++ zs)) ≡ take w (drop (w * i) (flat_map f xs ++ zs))
     further i = rw (mul-suc, add_comm (w * i) w, ← drop-drop, append_assoc, drop_at (f x) (flat_map f xs ++ zs) w (h x))

@@ -5,7 +5,7 @@
 --   journal_step step s line    of one line's bytes
 --   line_results step s lines        what each line of a journal comes to, each from the state that the one before left
 --   replayed step s lines      the state after the journal
--- With index's wordsStep these are the code, with the model's bookStep the plain book. Assumes nothing: these are definitions.
+-- With index's words_step these are the code, with the model's book_step the plain book. Assumes nothing: these are definitions.
 use Rattle.std.specs.Prelude.{ℕ, List, [], ◌∷◌}
 use Rattle.model.specs.Answer.{Answer, outcome_answer}
 use Rattle.model.specs.Call.{Call}

@@ -5,7 +5,7 @@
 --   answered call lent r             the line's step where its call gave r
 --   line_step step s lent line        of one line's bytes, from the state s and the lent list as they are
 --   session_text step s lent lines    what a list of lines prints, each line's text after the one before
--- With index's wordsStep these are the slip program, with the model's bookStep the plain book. Assumes nothing: these are definitions.
+-- With index's words_step these are the slip program, with the model's book_step the plain book. Assumes nothing: these are definitions.
 use Rattle.std.specs.Prelude.{ℕ, List, [], ◌∷◌, ◌++◌}
 use Rattle.std.proofs.Math.Option.{Option, none, some}
 use Rattle.model.specs.Call.{Call, grant, revoke, list, decide, count}

@@ -7,13 +7,11 @@ use Rattle.checksum.proofs.shifted.Goals as goal
 
 pub overflow_mul-result : goal.overflow_mul-result
 overflow_mul-result c =
-    let start = c in
-    let small = shift_lt start.args.remainder c.power.result start.args.places start.requires.reduced c.power.ensures in
+    let small = shift_lt c.args.remainder c.power.result c.args.places c.requires.reduced c.power.ensures in
     record { fits = omega (arith, small) }
 
 pub returns : goal.returns
-returns c =
-    let start = c in (
-      rw c.power.ensures (mul_mod start.args.remainder (256 ^ start.args.places)),
-      shift_lt start.args.remainder c.power.result start.args.places start.requires.reduced c.power.ensures,
-    )
+returns c = (
+  rw c.power.ensures (mul_mod c.args.remainder (256 ^ c.args.places)),
+  shift_lt c.args.remainder c.power.result c.args.places c.requires.reduced c.power.ensures,
+)

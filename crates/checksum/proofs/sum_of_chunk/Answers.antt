@@ -15,17 +15,15 @@ slice_bounds-sum_of_products-end c =
 
 pub sum_of_products-front-requires : goal.sum_of_products-front-requires
 sum_of_products-front-requires c =
-    let start = c in
-    let bytes = start.args.bytes.now in
+    let bytes = c.args.bytes.now in
     let size = length-take-le (length bytes / 2) bytes (omega arith) in
-    record { rule = start.requires.rule; few = rw size (omega (arith, start.requires.near)); inside = rw size (omega (arith, start.requires.near)) }
+    record { rule = c.requires.rule; few = rw size (omega (arith, c.requires.near)); inside = rw size (omega (arith, c.requires.near)) }
 
 pub returns : goal.returns
 returns c =
-    let start = c in
-    let bytes = start.args.bytes.now in
+    let bytes = c.args.bytes.now in
     let front = c.sum_of_products-front in
     let back = c.sum_of_products-back in
     let half = length bytes / 2 in
-    chunk-sum bytes half start.args.before c.shifted.result front.result back.result c.shifted.ensures.0 front.ensures
+    chunk-sum bytes half c.args.before c.shifted.result front.result back.result c.shifted.ensures.0 front.ensures
     (rw (take_all (length bytes - half) (drop half bytes) (le_of_eq (length-drop half bytes))) at back.ensures)

@@ -11,8 +11,7 @@ overflow_add-exponent c = record { fits = omega (arith, c.requires.inside) }
 
 pub loop-at-init : goal.loop-at-init
 loop-at-init c =
-    let start = c in
-    (search rules, omega arith, search rules, products_start start.args.bytes.now (length start.args.bytes.now + start.args.behind))
+    (search rules, omega arith, search rules, products_start c.args.bytes.now (length c.args.bytes.now + c.args.behind))
 
 pub overflow_sub-exponent : goal.overflow_sub-exponent
 overflow_sub-exponent c = omega arith
@@ -22,27 +21,23 @@ offset_bounds-powers-exponent c = record { fits = omega (arith, c.requires.insid
 
 pub bounds-powers-exponent : goal.bounds-powers-exponent
 bounds-powers-exponent c =
-    let start = c in
-    omega (arith, start.requires.inside)
+    omega (arith, c.requires.inside)
 
 pub product-sum-requires : goal.product-sum-requires
 product-sum-requires c =
     let l = c.loop-at in
-    let start = c in
-    entry_lt start.args.powers.now (l.exponent - 1) start.requires.rule (omega (arith, start.requires.inside))
+    entry_lt c.args.powers.now (l.exponent - 1) c.requires.rule (omega (arith, c.requires.inside))
 
 pub overflow_add-sum : goal.overflow_add-sum
 overflow_add-sum c =
-    let start = c in
-    record { fits = omega (arith, start.requires.few, c.product-sum.ensures.1) }
+    record { fits = omega (arith, c.requires.few, c.product-sum.ensures.1) }
 
 pub loop-at-preserved : goal.loop-at-preserved
 loop-at-preserved c =
     let l = c.loop-at in
-    let start = c in
-    let bytes = start.args.bytes.now in
-    let powers = start.args.powers.now in
-    let is-power = table_powers powers (l.exponent - 1) start.requires.rule (omega (arith, start.requires.inside)) in (
+    let bytes = c.args.bytes.now in
+    let powers = c.args.powers.now in
+    let is-power = table_powers powers (l.exponent - 1) c.requires.rule (omega (arith, c.requires.inside)) in (
       omega arith,
       omega arith,
       omega (arith, c.product-sum.ensures.1),
@@ -53,5 +48,4 @@ loop-at-preserved c =
 pub returns : goal.returns
 returns c =
     let l = c.loop-at in
-    let start = c in
-    products_end start.args.bytes.now l.at l.sum l.exponent start.args.behind (omega arith) (omega arith) l.invariant.3
+    products_end c.args.bytes.now l.at l.sum l.exponent c.args.behind (omega arith) (omega arith) l.invariant.3

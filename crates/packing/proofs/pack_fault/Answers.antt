@@ -6,19 +6,13 @@ use Rattle.packing.proofs.pack_fault.Goals as goal
 
 pub returns-then-number-list_too_short : goal.returns-then-number-list_too_short
 returns-then-number-list_too_short c =
-    let listed = c in
-    let valued = listed in
-    let numbered = valued in
-    let values = fault_values numbered.args.fault in
-    let is = c.if-number-list_too_short.true ∙ listed.fault_number-list_too_short.ensures.0 in
-    refusal-list _ values numbered.fault_number-number.ensures.0 valued.fault_value-value.ensures is c.word.ensures
+    let values = fault_values c.args.fault in
+    let is = c.if-number-list_too_short.true ∙ c.fault_number-list_too_short.ensures.0 in
+    refusal-list _ values c.fault_number-number.ensures.0 c.fault_value-value.ensures is c.word.ensures
 
 pub returns : goal.returns
 returns c =
-    let listed = c in
-    let valued = listed in
-    let numbered = valued in
-    let values = fault_values numbered.args.fault in
-    refusal_other _ values numbered.fault_number-number.ensures.0 valued.fault_value-value.ensures
-    (λ e. c.if-number-list_too_short.false (e ∙ sym listed.fault_number-list_too_short.ensures.0))
+    let values = fault_values c.args.fault in
+    refusal_other _ values c.fault_number-number.ensures.0 c.fault_value-value.ensures
+    (λ e. c.if-number-list_too_short.false (e ∙ sym c.fault_number-list_too_short.ensures.0))
     c.word-2.ensures

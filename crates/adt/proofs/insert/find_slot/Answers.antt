@@ -20,60 +20,36 @@ loop-below-init c =
 
 pub returns-then-k-eq0 : goal.returns-then-k-eq0
 returns-then-k-eq0 c =
-    let read = c in
-    let inner = read in
-    descent_blank _ _ _ _ _ _ _ _ _ inner.loop-below-test.true read.wide-k.ensures.0 c.if-k-eq0.true ∙ inner.loop-below.invariant.4
+    descent_blank _ _ _ _ _ _ _ _ _ c.loop-below-test.true c.wide-k.ensures.0 c.if-k-eq0.true ∙ c.loop-below.invariant.4
 
 pub returns-then-cells-k : goal.returns-then-cells-k
 returns-then-cells-k c =
-    let one = c in
-    let read = one in
-    let inner = read in
-    descent_above _ _ _ _ _ _ _ _ _ inner.loop-below-test.true read.wide-k.ensures.0 one.if-k-eq0.false c.if-cells-k.true
-    ∙ inner.loop-below.invariant.4
+    descent_above _ _ _ _ _ _ _ _ _ c.loop-below-test.true c.wide-k.ensures.0 c.if-k-eq0.false c.if-cells-k.true
+    ∙ c.loop-below.invariant.4
 
 pub returns-then-cells-met : goal.returns-then-cells-met
 returns-then-cells-met c =
-    let two = c in
-    let one = two in
-    let read = one in
-    let inner = read in
-    descent_full _ _ _ _ _ _ _ _ _ inner.loop-below-test.true read.wide-k.ensures.0 one.if-k-eq0.false two.if-cells-k.false c.if-cells-met.true
-    ∙ inner.loop-below.invariant.4
+    descent_full _ _ _ _ _ _ _ _ _ c.loop-below-test.true c.wide-k.ensures.0 c.if-k-eq0.false c.if-cells-k.false c.if-cells-met.true
+    ∙ c.loop-below.invariant.4
 
 pub returns-then-field-parent : goal.returns-then-field-parent
 returns-then-field-parent c =
-    let three = c in
-    let two = three in
-    let one = two in
-    let read = one in
-    let inner = read in
-    descent_parent _ _ _ _ _ _ _ _ _ inner.loop-below-test.true read.wide-k.ensures.0 one.if-k-eq0.false two.if-cells-k.false three.if-cells-met.false
+    descent_parent _ _ _ _ _ _ _ _ _ c.loop-below-test.true c.wide-k.ensures.0 c.if-k-eq0.false c.if-cells-k.false c.if-cells-met.false
     (λ e. c.if-field-parent.true (c.field.ensures ∙ e))
-    ∙ inner.loop-below.invariant.4
+    ∙ c.loop-below.invariant.4
 
 pub loop-below-preserved : goal.loop-below-preserved
 loop-below-preserved c =
-    let halved = c in
-    let sided = halved in
-    let axed = sided in
-    let four = axed in
-    let three = four in
-    let two = three in
-    let one = two in
-    let read = one in
-    let inner = read in
-    let l = inner.loop-below in
-    let start = inner in
-    let p = start.requires in
-    let axis = axed.axis_of-axis.ensures in
-    let half = ap (set l.region axed.axis_of-axis.result) halved.half_of.ensures ∙ set_half_of _ l.region _ l.invariant.3 axis.1 in (
+    let l = c.loop-below in
+    let p = c.requires in
+    let axis = c.axis_of-axis.ensures in
+    let half = ap (set l.region c.axis_of-axis.result) c.half_of.ensures ∙ set_half_of _ l.region _ l.invariant.3 axis.1 in (
       omega (arith, l.invariant.0),
-      omega (arith, c.link_place-link.ensures.1, p.long, two.if-cells-k.false),
-      omega (arith, three.if-cells-met.false),
+      omega (arith, c.link_place-link.ensures.1, p.long, c.if-cells-k.false),
+      omega (arith, c.if-cells-met.false),
       subst Shape (sym half) (half-shape _ l.region _ l.invariant.3 axis.1),
-      descent_next start.args.pool.now _ _ _ _ _ _ _ _ inner.loop-below-test.true read.wide-k.ensures.0 one.if-k-eq0.false two.if-cells-k.false three.if-cells-met.false
-          (sym four.field.ensures ∙ four.if-field-parent.false) axis.0 sided.side_of-side.ensures half (sym read.wide-k.ensures.0) c.link_place-link.ensures.0
+      descent_next c.args.pool.now _ _ _ _ _ _ _ _ c.loop-below-test.true c.wide-k.ensures.0 c.if-k-eq0.false c.if-cells-k.false c.if-cells-met.false
+          (sym c.field.ensures ∙ c.if-field-parent.false) axis.0 c.side_of-side.ensures half (sym c.wide-k.ensures.0) c.link_place-link.ensures.0
           ∙ l.invariant.4,
     )
 

@@ -10,11 +10,9 @@ returns-then-predicate-eq-IN_RANGE c = rw (eq-eqb _ _ c.if-predicate-eq-IN_RANGE
 pub returns-then-predicate-eq-TOUCHING : goal.returns-then-predicate-eq-TOUCHING
 unfolding predicate_in
 returns-then-predicate-eq-TOUCHING c =
-    let two = c in
-    rw (ne_eqb _ _ two.if-predicate-eq-IN_RANGE.false, eq-eqb _ _ two.if-predicate-eq-TOUCHING.true) c.is_taken.ensures
+    rw (ne_eqb _ _ c.if-predicate-eq-IN_RANGE.false, eq-eqb _ _ c.if-predicate-eq-TOUCHING.true) c.is_taken.ensures
 
 pub returns : goal.returns
 unfolding predicate_in
 returns c =
-    let two = c in
-    rw (ne_eqb _ _ two.if-predicate-eq-IN_RANGE.false, ne_eqb _ _ two.if-predicate-eq-TOUCHING.false) c.is_taken-2.ensures
+    rw (ne_eqb _ _ c.if-predicate-eq-IN_RANGE.false, ne_eqb _ _ c.if-predicate-eq-TOUCHING.false) c.is_taken-2.ensures

@@ -4,6 +4,4 @@ use Rattle.adt.proofs.predicates.is_taken.Goals as goal
 
 pub returns : goal.returns
 returns c =
-    let related = c in
-    let boxed = related in
-    taken_so _ _ boxed.box_in.ensures boxed.bounds_at.ensures related.relation_of.ensures c.takes.ensures
+    taken_so _ _ c.box_in.ensures c.bounds_at.ensures c.relation_of.ensures c.takes.ensures

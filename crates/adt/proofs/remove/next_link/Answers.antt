@@ -4,11 +4,9 @@ use Rattle.adt.proofs.remove.next_link.Goals as goal
 
 pub returns-then-pool-left-eq0 : goal.returns-then-pool-left-eq0
 returns-then-pool-left-eq0 c =
-    let left = c in
     let right = c.place_of.ensures in
-    (next_right left.args.pool.now _ _ left.place_of-left.ensures.0 c.if-pool-left-eq0.true right.0, right.1)
+    (next_right c.args.pool.now _ _ c.place_of-left.ensures.0 c.if-pool-left-eq0.true right.0, right.1)
 
 pub returns : goal.returns
 returns c =
-    let left = c in
-    (next-left left.args.pool.now _ _ left.place_of-left.ensures.0 c.if-pool-left-eq0.false, left.place_of-left.ensures.1)
+    (next-left c.args.pool.now _ _ c.place_of-left.ensures.0 c.if-pool-left-eq0.false, c.place_of-left.ensures.1)

@@ -10,14 +10,12 @@ shape_of-pool-then-leaf-k c = omega (arith, simp (length-freed, length-set) at (
 
 pub returns-then-leaf-k : goal.returns-then-leaf-k
 returns-then-leaf-k c =
-    let one = c in
-    remove-terminal one.args.pool.now _ _ _ _ one.if-leaf-k.true c.free.ensures
+    remove-terminal c.args.pool.now _ _ _ _ c.if-leaf-k.true c.free.ensures
 
 pub raise-requires : goal.raise-requires
 raise-requires c =
-    let moved = c in
-    let p = moved.requires in
-    let kept = ap length moved.replace.ensures ∙ length-replaced _ _ _ _ _ in
+    let p = c.requires in
+    let kept = ap length c.replace.ensures ∙ length-replaced _ _ _ _ _ in
     let k = p.1.cell in
     let leaf = p.1.terminal in (
       record { some = p.0.some; few = p.0.few; long = kept ∙ p.0.long },
@@ -27,25 +25,16 @@ raise-requires c =
 
 pub free-requires-2 : goal.free-requires-2
 free-requires-2 c =
-    let up = c in
-    let moved = up in
-    let k = moved.requires.1.cell in
-    let kept = ap length up.raise.ensures ∙ length-raised _ _ _ ∙ ap length moved.replace.ensures ∙ length-replaced _ _ _ _ _ in
+    let k = c.requires.1.cell in
+    let kept = ap length c.raise.ensures ∙ length-raised _ _ _ ∙ ap length c.replace.ensures ∙ length-replaced _ _ _ _ _ in
     record { some = k.some; few = k.few; long = omega (arith, kept, k.long) }
 
 pub shape_of-pool : goal.shape_of-pool
 shape_of-pool c =
-    let last = c in
-    let up = last in
-    let moved = up in
-    ap length last.free-2.ensures ∙ length-freed _ _
-    ∙ ap length up.raise.ensures ∙ length-raised _ _ _
-    ∙ ap length moved.replace.ensures ∙ length-replaced _ _ _ _ _
+    ap length c.free-2.ensures ∙ length-freed _ _
+    ∙ ap length c.raise.ensures ∙ length-raised _ _ _
+    ∙ ap length c.replace.ensures ∙ length-replaced _ _ _ _ _
 
 pub returns : goal.returns
 returns c =
-    let last = c in
-    let up = last in
-    let moved = up in
-    let one = moved in
-    remove_other one.args.pool.now _ _ _ _ one.if-leaf-k.false moved.replace.ensures up.raise.ensures last.free-2.ensures
+    remove_other c.args.pool.now _ _ _ _ c.if-leaf-k.false c.replace.ensures c.raise.ensures c.free-2.ensures

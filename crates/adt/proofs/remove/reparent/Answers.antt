@@ -6,29 +6,16 @@ use Rattle.adt.proofs.remove.reparent.Goals as goal
 
 pub returns-then-j-eq0 : goal.returns-then-j-eq0
 returns-then-j-eq0 c =
-    let read = c in
-    let start = read in
-    reparent_none _ (capacity_of-pool_length _ _ start.requires.long) read.wide-j.ensures.0 _ c.if-j-eq0.true
+    reparent_none _ (capacity_of-pool_length _ _ c.requires.long) c.wide-j.ensures.0 _ c.if-j-eq0.true
 
 pub returns-then-cells-j : goal.returns-then-cells-j
 returns-then-cells-j c =
-    let one = c in
-    let read = one in
-    let start = read in
-    reparent_above _ (capacity_of-pool_length _ _ start.requires.long) read.wide-j.ensures.0 _ one.if-j-eq0.false c.if-cells-j.true
+    reparent_above _ (capacity_of-pool_length _ _ c.requires.long) c.wide-j.ensures.0 _ c.if-j-eq0.false c.if-cells-j.true
 
 pub set_field-requires : goal.set_field-requires
 set_field-requires c =
-    let two = c in
-    let one = two in
-    let start = one in
-    cell_in_pool start.requires (omega (arith, one.if-j-eq0.false)) two.if-cells-j.false
+    cell_in_pool c.requires (omega (arith, c.if-j-eq0.false)) c.if-cells-j.false
 
 pub returns : goal.returns
 returns c =
-    let stored = c in
-    let two = stored in
-    let one = two in
-    let read = one in
-    let start = read in
-    reparent_stored _ (capacity_of-pool_length _ _ start.requires.long) read.wide-j.ensures.0 _ one.if-j-eq0.false two.if-cells-j.false stored.set_field.ensures
+    reparent_stored _ (capacity_of-pool_length _ _ c.requires.long) c.wide-j.ensures.0 _ c.if-j-eq0.false c.if-cells-j.false c.set_field.ensures

@@ -8,33 +8,21 @@ use Rattle.adt.proofs.search.search.Goals as goal
 
 pub returns-then-root-eq0 : goal.returns-then-root-eq0
 returns-then-root-eq0 c =
-    let read = c in
-    search-blank _ _ read.requires.0 _ read.wide-root.ensures.0 c.if-root-eq0.true
+    search-blank _ _ c.requires.0 _ c.wide-root.ensures.0 c.if-root-eq0.true
 
 pub returns-then-not-meets_range : goal.returns-then-not-meets_range
 returns-then-not-meets_range c =
-    let asked = c in
-    let rooted = asked in
-    let read = rooted in
-    let start = read in
-    let root = ap (λ (g : Region). meets g start.args.range.now) (sym rooted.root_region-region.ensures) in
-    let m = root ∙ sym asked.meets_range.ensures ∙ c.if-not-meets_range.true in
-    search-apart _ _ start.requires.0 _ read.wide-root.ensures.0 rooted.if-root-eq0.false m
+    let root = ap (λ (g : Region). meets g c.args.range.now) (sym c.root_region-region.ensures) in
+    let m = root ∙ sym c.meets_range.ensures ∙ c.if-not-meets_range.true in
+    search-apart _ _ c.requires.0 _ c.wide-root.ensures.0 c.if-root-eq0.false m
 
 pub enter-requires : goal.enter-requires
 enter-requires c =
-    let two = c in
-    let asked = two in
-    let rooted = asked in
-    let read = rooted in
-    let start = read in
-    search_entering start.requires.0 read.wide-root.ensures.0 rooted.if-root-eq0.false start.requires.1
-    (subst Shape (sym rooted.root_region-region.ensures) root_shape)
-    (sym asked.meets_range.ensures ∙ two.if-not-meets_range.false) Left
+    search_entering c.requires.0 c.wide-root.ensures.0 c.if-root-eq0.false c.requires.1
+    (subst Shape (sym c.root_region-region.ensures) root_shape)
+    (sym c.meets_range.ensures ∙ c.if-not-meets_range.false) Left
 
 pub returns : goal.returns
 returns c =
-    let worded = c in
-    let rooted = worded in
-    rw (← worded.words_of-words.ensures)
-    (search-entered _ _ rooted.requires.0 rooted.root_region-region.ensures Left c.enter.ensures)
+    rw (← c.words_of-words.ensures)
+    (search-entered _ _ c.requires.0 c.root_region-region.ensures Left c.enter.ensures)

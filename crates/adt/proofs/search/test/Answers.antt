@@ -6,40 +6,31 @@ use Rattle.adt.proofs.search.test.Goals as goal
 
 pub returns-then-counters-met : goal.returns-then-counters-met
 returns-then-counters-met c =
-    let start = c in
-    let a = start.args in
+    let a = c.args in
     let here : Spot = record { level = a.level; link = a.link } in
-    test_full a.pool.now _ a.range.now _ here a.k a.hits.now start.requires.ready.few
-    a.counters.now start.requires.ready.counted c.if-counters-met.true
+    test_full a.pool.now _ a.range.now _ here a.k a.hits.now c.requires.ready.few
+    a.counters.now c.requires.ready.counted c.if-counters-met.true
 
 pub returns-then-not-is_hit : goal.returns-then-not-is_hit
 returns-then-not-is_hit c =
-    let one = c in
-    let start = one in
-    let a = start.args in
+    let a = c.args in
     let here : Spot = record { level = a.level; link = a.link } in
     let outside = sym c.is_hit.ensures ∙ c.if-not-is_hit.true in
-    test_outside a.pool.now _ a.range.now _ here a.k a.hits.now start.requires.ready.few
-    _ one.if-counters-met.false a.counters.now start.requires.ready.counted refl outside
+    test_outside a.pool.now _ a.range.now _ here a.k a.hits.now c.requires.ready.few
+    _ c.if-counters-met.false a.counters.now c.requires.ready.counted refl outside
 
 pub returns-then-found-gt0 : goal.returns-then-found-gt0
 returns-then-found-gt0 c =
-    let tested = c in
-    let one = tested in
-    let start = one in
-    let a = start.args in
+    let a = c.args in
     let here : Spot = record { level = a.level; link = a.link } in
-    let hit = sym tested.is_hit.ensures ∙ c.if-not-is_hit.false in
-    test_later a.pool.now _ a.range.now _ here a.k a.hits.now start.requires.ready.few
-    _ one.if-counters-met.false _ hit a.counters.now start.requires.ready.counted refl refl c.if-found-gt0.true
+    let hit = sym c.is_hit.ensures ∙ c.if-not-is_hit.false in
+    test_later a.pool.now _ a.range.now _ here a.k a.hits.now c.requires.ready.few
+    _ c.if-counters-met.false _ hit a.counters.now c.requires.ready.counted refl refl c.if-found-gt0.true
 
 pub returns : goal.returns
 returns c =
-    let tested = c in
-    let one = tested in
-    let start = one in
-    let a = start.args in
+    let a = c.args in
     let here : Spot = record { level = a.level; link = a.link } in
-    let hit = sym tested.is_hit.ensures ∙ c.if-not-is_hit.false in
-    test_first a.pool.now _ a.range.now _ here a.k a.hits.now start.requires.ready.few
-    _ one.if-counters-met.false _ hit a.counters.now start.requires.ready.counted refl refl c.if-found-gt0.false
+    let hit = sym c.is_hit.ensures ∙ c.if-not-is_hit.false in
+    test_first a.pool.now _ a.range.now _ here a.k a.hits.now c.requires.ready.few
+    _ c.if-counters-met.false _ hit a.counters.now c.requires.ready.counted refl refl c.if-found-gt0.false

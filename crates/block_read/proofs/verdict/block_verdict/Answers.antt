@@ -10,5 +10,4 @@ pub read_defect-requires : goal.read_defect-requires
 read_defect-requires c = length_in _ _ (sym c.if-not_in_file.false ∙ c.not_in_file.ensures)
 
 pub returns : goal.returns
-returns c = let inside = c in
-    rw c.outcome_of.ensures (read_answer _ _ (sym inside.if-not_in_file.false ∙ inside.not_in_file.ensures) c.read_defect.ensures)
+returns c = rw c.outcome_of.ensures (read_answer _ _ (sym c.if-not_in_file.false ∙ c.not_in_file.ensures) c.read_defect.ensures)

@@ -10,5 +10,4 @@ returns-then-d-gt9999 c = rw (lt-leb _ _ c.if-d-gt9999.true)
 pub returns : goal.returns
 unfolding is_base
 returns c =
-    let asked = c in
-    rw (le-leb _ _ asked.if-d-gt9999.false, c.date_after-last.ensures, asked.day_of.ensures)
+    rw (le-leb _ _ c.if-d-gt9999.false, c.date_after-last.ensures, c.day_of.ensures)

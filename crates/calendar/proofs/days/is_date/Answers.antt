@@ -18,18 +18,15 @@ returns-then-month-lt1 c = rw (le-leb _ _ c.if-year-lt1.false, le-leb _ _ c.if-y
 pub returns-then-month-gt12 : goal.returns-then-month-gt12
 unfolding is_date
 returns-then-month-gt12 c =
-    let second = c in
-    rw (le-leb _ _ second.if-year-lt1.false, le-leb _ _ second.if-year-gt9999.false, le-leb _ _ c.if-month-lt1.false, lt-leb _ _ c.if-month-gt12.true)
+    rw (le-leb _ _ c.if-year-lt1.false, le-leb _ _ c.if-year-gt9999.false, le-leb _ _ c.if-month-lt1.false, lt-leb _ _ c.if-month-gt12.true)
 
 pub returns-then-day-lt1 : goal.returns-then-day-lt1
 unfolding is_date
 returns-then-day-lt1 c =
-    let third = c in
-    let first = third in
     rw (
-      le-leb _ _ first.if-year-lt1.false,
-      le-leb _ _ third.if-year-gt9999.false,
-      le-leb _ _ third.if-month-lt1.false,
+      le-leb _ _ c.if-year-lt1.false,
+      le-leb _ _ c.if-year-gt9999.false,
+      le-leb _ _ c.if-month-lt1.false,
       le-leb _ _ c.if-month-gt12.false,
       lt-leb _ _ c.if-day-lt1.true,
     )
@@ -37,13 +34,11 @@ returns-then-day-lt1 c =
 pub returns : goal.returns
 unfolding is_date
 returns c =
-    let fourth = c in
-    let second = fourth in
     rw (
-      le-leb _ _ second.if-year-lt1.false,
-      le-leb _ _ second.if-year-gt9999.false,
-      le-leb _ _ fourth.if-month-lt1.false,
-      le-leb _ _ fourth.if-month-gt12.false,
+      le-leb _ _ c.if-year-lt1.false,
+      le-leb _ _ c.if-year-gt9999.false,
+      le-leb _ _ c.if-month-lt1.false,
+      le-leb _ _ c.if-month-gt12.false,
       le-leb _ _ c.if-day-lt1.false,
       c.month_days.ensures,
     )

@@ -23,18 +23,15 @@ returns-then-month-eq6 c = rw (ne_eqb _ _ c.if-month-eq2.false, ne_eqb _ _ c.if-
 pub returns-then-month-eq9 : goal.returns-then-month-eq9
 unfolding month_days
 returns-then-month-eq9 c =
-    let third = c in
-    rw (ne_eqb _ _ third.if-month-eq2.false, ne_eqb _ _ third.if-month-eq4.false, ne_eqb _ _ c.if-month-eq6.false, eq-eqb _ _ c.if-month-eq9.true)
+    rw (ne_eqb _ _ c.if-month-eq2.false, ne_eqb _ _ c.if-month-eq4.false, ne_eqb _ _ c.if-month-eq6.false, eq-eqb _ _ c.if-month-eq9.true)
 
 pub returns-then-month-eq11 : goal.returns-then-month-eq11
 unfolding month_days
 returns-then-month-eq11 c =
-    let fourth = c in
-    let first = fourth in
     rw (
-      ne_eqb _ _ first.if-month-eq2.false,
-      ne_eqb _ _ fourth.if-month-eq4.false,
-      ne_eqb _ _ fourth.if-month-eq6.false,
+      ne_eqb _ _ c.if-month-eq2.false,
+      ne_eqb _ _ c.if-month-eq4.false,
+      ne_eqb _ _ c.if-month-eq6.false,
       ne_eqb _ _ c.if-month-eq9.false,
       eq-eqb _ _ c.if-month-eq11.true,
     )
@@ -42,12 +39,10 @@ returns-then-month-eq11 c =
 pub returns : goal.returns
 unfolding month_days
 returns c =
-    let fourth = c in
-    let first = fourth in
     rw (
-      ne_eqb _ _ first.if-month-eq2.false,
-      ne_eqb _ _ fourth.if-month-eq4.false,
-      ne_eqb _ _ fourth.if-month-eq6.false,
+      ne_eqb _ _ c.if-month-eq2.false,
+      ne_eqb _ _ c.if-month-eq4.false,
+      ne_eqb _ _ c.if-month-eq6.false,
       ne_eqb _ _ c.if-month-eq9.false,
       ne_eqb _ _ c.if-month-eq11.false,
     )

@@ -13,19 +13,17 @@ returns-then-d-month_days c =
 pub returns-then-d-lt12 : goal.returns-then-d-lt12
 unfolding next_day
 returns-then-d-lt12 c =
-    let first = c in
-    let d = first.args.d in
+    let d = c.args.d in
     rw (
-      le-ltb d.day (month_days d.year d.month) (omega (arith, first.if-d-month_days.false, first.month_days.ensures)),
+      le-ltb d.day (month_days d.year d.month) (omega (arith, c.if-d-month_days.false, c.month_days.ensures)),
       lt-ltb d.month 12 c.if-d-lt12.true,
     )
 
 pub returns : goal.returns
 unfolding next_day
 returns c =
-    let first = c in
-    let d = first.args.d in
+    let d = c.args.d in
     rw (
-      le-ltb d.day (month_days d.year d.month) (omega (arith, first.if-d-month_days.false, first.month_days.ensures)),
+      le-ltb d.day (month_days d.year d.month) (omega (arith, c.if-d-month_days.false, c.month_days.ensures)),
       le-ltb d.month 12 c.if-d-lt12.false,
     )

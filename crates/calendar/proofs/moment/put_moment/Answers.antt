@@ -5,8 +5,5 @@ use Rattle.calendar.proofs.moment.put_moment.Goals as goal
 
 pub returns : goal.returns
 returns c =
-    let time = c in
-    let gap = time in
-    let date = gap in
-    rw (sym date.day_of.ensures, sym date.date_after.ensures)
-    (put_then date.put_date-gap.ensures (put_then gap.put_byte-time.ensures time.put_time.ensures))
+    rw (sym c.day_of.ensures, sym c.date_after.ensures)
+    (put_then c.put_date-gap.ensures (put_then c.put_byte-time.ensures c.put_time.ensures))

@@ -5,8 +5,5 @@ use Rattle.calendar.proofs.moment.put_time.Goals as goal
 
 pub returns : goal.returns
 returns c =
-    let minute = c in
-    let colon = minute in
-    let hour = colon in
-    rw (sym hour.hour_of.ensures, sym minute.minute_of.ensures)
-    (put_then hour.put_two-colon.ensures (put_then colon.put_byte-minute.ensures minute.put_two.ensures))
+    rw (sym c.hour_of.ensures, sym c.minute_of.ensures)
+    (put_then c.put_two-colon.ensures (put_then c.put_byte-minute.ensures c.put_two.ensures))

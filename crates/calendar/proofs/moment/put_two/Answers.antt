@@ -4,5 +4,4 @@ use Rattle.calendar.proofs.moment.put_two.Goals as goal
 
 pub returns : goal.returns
 returns c =
-    let last = c in
-    put_then last.put_byte-next.ensures last.put_byte.ensures
+    put_then c.put_byte-next.ensures c.put_byte.ensures

@@ -5,9 +5,7 @@ use Rattle.calendar.proofs.note.put_note_from.Goals as goal
 
 pub returns : goal.returns
 returns c =
-    let end = c in
-    let moment = end in
-    let text = moment.put_text-moment.ensures in (
-      put_then text (put_then moment.put_moment-end.ensures end.put_byte.ensures),
-      omega (arith, text.ends, moment.put_moment-end.ensures.ends, end.put_byte.ensures.ends),
+    let text = c.put_text-moment.ensures in (
+      put_then text (put_then c.put_moment-end.ensures c.put_byte.ensures),
+      omega (arith, text.ends, c.put_moment-end.ensures.ends, c.put_byte.ensures.ends),
     )

@@ -9,8 +9,7 @@ loop-i-init c = (refl, refl)
 
 pub grant_in-requires : goal.grant_in-requires
 grant_in-requires c =
-    let start = c in
-    (start.requires.accepted, omega (arith, start.requires.counted))
+    (c.requires.accepted, omega (arith, c.requires.counted))
 
 pub add-requires : goal.add-requires
 add-requires c =
@@ -19,12 +18,10 @@ add-requires c =
     record { some = size.some; few = size.few; long = l.invariant.0 ∙ size.long }
 
 pub loop-i-preserved : goal.loop-i-preserved
-loop-i-preserved c =
-    let added = c in
-    let at = added in (
-      added.add.auto.pool ∙ at.loop-i.invariant.0,
-      added_more _ at.loop-i.pool _ at.loop-i.i added.grant_in.ensures added.add.ensures ∙ at.loop-i.invariant.1,
-    )
+loop-i-preserved c = (
+  c.add.auto.pool ∙ c.loop-i.invariant.0,
+  added_more _ c.loop-i.pool _ c.loop-i.i c.grant_in.ensures c.add.ensures ∙ c.loop-i.invariant.1,
+)
 
 pub shape_of-pool : goal.shape_of-pool
 shape_of-pool c = c.loop-i.invariant.0
@@ -32,5 +29,4 @@ shape_of-pool c = c.loop-i.invariant.0
 pub returns : goal.returns
 returns c =
     let l = c.loop-i in
-    let start = c in
-    sym (added_all_lem start.args.file.now l.pool l.i (omega (arith, start.requires.counted))) ∙ l.invariant.1
+    sym (added_all_lem c.args.file.now l.pool l.i (omega (arith, c.requires.counted))) ∙ l.invariant.1

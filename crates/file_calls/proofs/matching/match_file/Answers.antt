@@ -11,19 +11,13 @@ use Rattle.file_calls.proofs.matching.match_file.Goals as goal
 
 pub returns-then-cells-eq0 : goal.returns-then-cells-eq0
 returns-then-cells-eq0 c =
-    let sized = c in
-    let start = sized in
-    match_bad start.args.pool.now start.args.file.now sized.capacity-cells.ensures c.if-cells-eq0.true
+    match_bad c.args.pool.now c.args.file.now c.capacity-cells.ensures c.if-cells-eq0.true
 
 pub returns-in_default : goal.returns-in_default
 returns-in_default c =
-    let told = c in
-    let judged = told in
-    let some = judged in
-    let start = some in
     c.refused_file.ensures
-    ∙ match_file start.args.pool.now start.args.file.now some.capacity-cells.ensures some.if-cells-eq0.false judged.judge-verdict.ensures
-    told.in_default.is
+    ∙ match_file c.args.pool.now c.args.file.now c.capacity-cells.ensures c.if-cells-eq0.false c.judge-verdict.ensures
+    c.in_default.is
 
 pub first_door-requires : goal.first_door-requires
 first_door-requires c =
@@ -31,56 +25,31 @@ first_door-requires c =
 
 pub last_door-requires : goal.last_door-requires
 last_door-requires c =
-    let taken = c in
-    omega (arith, (accepted-whole _ (file_taken _ taken.judge-verdict.ensures taken.in-Done.is)).some)
+    omega (arith, (accepted-whole _ (file_taken _ c.judge-verdict.ensures c.in-Done.is)).some)
 
 pub find_hits-requires : goal.find_hits-requires
 find_hits-requires c =
-    let taken = c in
-    let some = taken in
-    let t = pool_taken _ some.capacity-cells.ensures some.if-cells-eq0.false in
+    let t = pool_taken _ c.capacity-cells.ensures c.if-cells-eq0.false in
     let range = c.range_of_doors-range.ensures in
     record { sized = t.sized; one_sided = subst OneSided (sym range) (doors_one_sided _); room = refl }
 
 pub returns-in_default-find_hits : goal.returns-in_default-find_hits
 returns-in_default-find_hits c =
-    let searched = c in
-    let ranged = searched in
-    let last = ranged in
-    let first = last in
-    let taken = first in
-    let judged = taken in
-    let some = judged in
-    let start = some in
-    match_broken start.args.pool.now start.args.file.now some.capacity-cells.ensures some.if-cells-eq0.false
-    (file_taken _ judged.judge-verdict.ensures taken.in-Done.is) first.first_door.ensures last.last_door.ensures
-    ranged.range_of_doors-range.ensures _ searched.find_hits.ensures c.in_default-find_hits.is
+    match_broken c.args.pool.now c.args.file.now c.capacity-cells.ensures c.if-cells-eq0.false
+    (file_taken _ c.judge-verdict.ensures c.in-Done.is) c.first_door.ensures c.last_door.ensures
+    c.range_of_doors-range.ensures _ c.find_hits.ensures c.in_default-find_hits.is
 
 pub sort_cells-requires : goal.sort_cells-requires
 sort_cells-requires c =
-    let found = c in
-    (found-cells _ _ _ _ found.find_hits.ensures found.in-Found.is, refl)
+    (found-cells _ _ _ _ c.find_hits.ensures c.in-Found.is, refl)
 
 pub first_difference-requires : goal.first_difference-requires
 first_difference-requires c =
-    let sorted = c in
-    let searched = sorted in
-    let taken = searched in
-    (sorted.sort_cells.ensures.1, file_taken _ taken.judge-verdict.ensures taken.in-Done.is)
+    (c.sort_cells.ensures.1, file_taken _ c.judge-verdict.ensures c.in-Done.is)
 
 pub returns : goal.returns
 returns c =
-    let sorted = c in
-    let found = sorted in
-    let searched = found in
-    let ranged = searched in
-    let last = ranged in
-    let first = last in
-    let taken = first in
-    let judged = taken in
-    let some = judged in
-    let start = some in
-    match_done start.args.pool.now start.args.file.now some.capacity-cells.ensures some.if-cells-eq0.false
-    (file_taken _ judged.judge-verdict.ensures taken.in-Done.is) first.first_door.ensures last.last_door.ensures
-    ranged.range_of_doors-range.ensures _ searched.find_hits.ensures found.in-Found.is _ sorted.sort_cells.ensures.0
+    match_done c.args.pool.now c.args.file.now c.capacity-cells.ensures c.if-cells-eq0.false
+    (file_taken _ c.judge-verdict.ensures c.in-Done.is) c.first_door.ensures c.last_door.ensures
+    c.range_of_doors-range.ensures _ c.find_hits.ensures c.in-Found.is _ c.sort_cells.ensures.0
     c.first_difference.ensures

@@ -11,78 +11,47 @@ use Rattle.file_calls.proofs.write.write.Goals as goal
 
 pub returns-then-cells-eq0 : goal.returns-then-cells-eq0
 returns-then-cells-eq0 c =
-    let start = c in
-    write_bad start.args.pool.now _ start.args.bytes.now c.capacity-cells.ensures c.if-cells-eq0.true
+    write_bad c.args.pool.now _ c.args.bytes.now c.capacity-cells.ensures c.if-cells-eq0.true
 
 pub returns-then-door_to-door_from : goal.returns-then-door_to-door_from
 returns-then-door_to-door_from c =
-    let sized = c in
-    let start = sized in
-    write-reversed start.args.pool.now _ start.args.bytes.now sized.capacity-cells.ensures c.if-cells-eq0.false c.if-door_to-door_from.true
+    write-reversed c.args.pool.now _ c.args.bytes.now c.capacity-cells.ensures c.if-cells-eq0.false c.if-door_to-door_from.true
 
 pub find_hits-requires : goal.find_hits-requires
 find_hits-requires c =
-    let some = c in
-    let t = pool_taken _ some.capacity-cells.ensures some.if-cells-eq0.false in
+    let t = pool_taken _ c.capacity-cells.ensures c.if-cells-eq0.false in
     let range = c.range_of_doors-range.ensures in
     record { sized = t.sized; one_sided = subst OneSided (sym range) (doors_one_sided _); room = refl }
 
 pub returns-in_default : goal.returns-in_default
 returns-in_default c =
-    let searched = c in
-    let ranged = searched in
-    let forward = ranged in
-    let some = forward in
-    let start = some in
-    write-broken start.args.pool.now _ start.args.bytes.now some.capacity-cells.ensures some.if-cells-eq0.false forward.if-door_to-door_from.false
-    ranged.range_of_doors-range.ensures _ searched.find_hits.ensures c.in_default.is
+    write-broken c.args.pool.now _ c.args.bytes.now c.capacity-cells.ensures c.if-cells-eq0.false c.if-door_to-door_from.false
+    c.range_of_doors-range.ensures _ c.find_hits.ensures c.in_default.is
 
 pub blocks_for-needed-requires : goal.blocks_for-needed-requires
 blocks_for-needed-requires c =
-    let found = c in
-    omega (arith, (found-cells _ _ _ _ found.find_hits.ensures found.in-Found.is).few)
+    omega (arith, (found-cells _ _ _ _ c.find_hits.ensures c.in-Found.is).few)
 
 pub overflow_mul-needed : goal.overflow_mul-needed
 overflow_mul-needed c =
-    let found = c in
-    omega (arith, c.blocks_for-needed.ensures, (found-cells _ _ _ _ found.find_hits.ensures found.in-Found.is).few)
+    omega (arith, c.blocks_for-needed.ensures, (found-cells _ _ _ _ c.find_hits.ensures c.in-Found.is).few)
 
 pub returns-then-bytes-needed : goal.returns-then-bytes-needed
 returns-then-bytes-needed c =
-    let counted = c in
-    let found = counted in
-    let searched = found in
-    let ranged = searched in
-    let forward = ranged in
-    let some = forward in
-    let start = some in
-    write_short start.args.pool.now _ start.args.bytes.now some.capacity-cells.ensures some.if-cells-eq0.false forward.if-door_to-door_from.false
-    ranged.range_of_doors-range.ensures _ searched.find_hits.ensures found.in-Found.is
-    (ap (λ (k : ℕ). 512 * k) counted.blocks_for-needed.ensures) c.if-bytes-needed.true
+    write_short c.args.pool.now _ c.args.bytes.now c.capacity-cells.ensures c.if-cells-eq0.false c.if-door_to-door_from.false
+    c.range_of_doors-range.ensures _ c.find_hits.ensures c.in-Found.is
+    (ap (λ (k : ℕ). 512 * k) c.blocks_for-needed.ensures) c.if-bytes-needed.true
 
 pub sort_cells-requires : goal.sort_cells-requires
 sort_cells-requires c =
-    let found = c in
-    (found-cells _ _ _ _ found.find_hits.ensures found.in-Found.is, refl)
+    (found-cells _ _ _ _ c.find_hits.ensures c.in-Found.is, refl)
 
 pub write_file-requires : goal.write_file-requires
 write_file-requires c =
-    let sorted = c in
-    let room = sorted in
-    (sorted.sort_cells.ensures.1, omega (arith, room.blocks_for-needed.ensures, room.if-bytes-needed.false))
+    (c.sort_cells.ensures.1, omega (arith, c.blocks_for-needed.ensures, c.if-bytes-needed.false))
 
 pub returns : goal.returns
 returns c =
-    let wrote = c in
-    let sorted = wrote in
-    let room = sorted in
-    let counted = room in
-    let found = counted in
-    let searched = found in
-    let ranged = searched in
-    let forward = ranged in
-    let some = forward in
-    let start = some in
-    write_done start.args.pool.now _ start.args.bytes.now some.capacity-cells.ensures some.if-cells-eq0.false forward.if-door_to-door_from.false
-    ranged.range_of_doors-range.ensures _ searched.find_hits.ensures found.in-Found.is
-    (ap (λ (k : ℕ). 512 * k) counted.blocks_for-needed.ensures) room.if-bytes-needed.false _ sorted.sort_cells.ensures.0 wrote.write_file.ensures
+    write_done c.args.pool.now _ c.args.bytes.now c.capacity-cells.ensures c.if-cells-eq0.false c.if-door_to-door_from.false
+    c.range_of_doors-range.ensures _ c.find_hits.ensures c.in-Found.is
+    (ap (λ (k : ℕ). 512 * k) c.blocks_for-needed.ensures) c.if-bytes-needed.false _ c.sort_cells.ensures.0 c.write_file.ensures

@@ -11,23 +11,15 @@ count_in-count-requires c =
 
 pub write_records-requires : goal.write_records-requires
 write_records-requires c =
-    let begun = c in
-    let counted = begun in
-    let start = counted in
-    let at = start.requires.0 in
+    let at = c.requires.0 in
     record {
-      readable = cells_fewer at.readable (omega (arith, counted.count_in-count.ensures.0, at.positive, at.below));
-      few = counted.count_in-count.ensures.1;
-      long = begun.start_block.auto.block ∙ start.requires.1;
+      readable = cells_fewer at.readable (omega (arith, c.count_in-count.ensures.0, at.positive, at.below));
+      few = c.count_in-count.ensures.1;
+      long = c.start_block.auto.block ∙ c.requires.1;
     }
 
 pub returns : goal.returns
 returns c =
-    let shut = c in
-    let wrote = shut in
-    let begun = wrote in
-    let counted = begun in
-    let start = counted in
-    block_written start.args.pool.now start.args.cells.now start.args.total start.args.block.now start.args.number _
-    start.requires.0.readable start.requires.0.positive start.requires.0.below start.requires.1 counted.count_in-count.ensures.0 begun.start_block.ensures
-    wrote.write_records.ensures shut.seal.ensures
+    block_written c.args.pool.now c.args.cells.now c.args.total c.args.block.now c.args.number _
+    c.requires.0.readable c.requires.0.positive c.requires.0.below c.requires.1 c.count_in-count.ensures.0 c.start_block.ensures
+    c.write_records.ensures c.seal.ensures

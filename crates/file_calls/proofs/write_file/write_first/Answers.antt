@@ -12,7 +12,7 @@ slice_bounds-write_block-end-2 c = sym (length-take-le block_bytes c.args.bytes.
 
 pub write_block-requires : goal.write_block-requires
 write_block-requires c =
-    let start = c in (start.requires.0, length-take-le block_bytes start.args.bytes.now start.requires.1)
+    (c.requires.0, length-take-le block_bytes c.args.bytes.now c.requires.1)
 
 pub returns : goal.returns
 returns c = rw c.write_block.ensures

@@ -4,27 +4,18 @@ use Rattle.file_contents.proofs.ContentsSteps.{given_refused, given_accepted, ta
 use Rattle.file_contents.proofs.door_range.has_door.Goals as goal
 
 pub returns-then-is_wrong : goal.returns-then-is_wrong
-returns-then-is_wrong c = let told = c in
-    given_refused _ told.validate.ensures told.is_wrong.ensures _ c.if-is_wrong.true
+returns-then-is_wrong c = given_refused _ c.validate.ensures c.is_wrong.ensures _ c.if-is_wrong.true
 
 pub first_door-requires : goal.first_door-requires
-first_door-requires c = let told = c in
-    taken-front _ told.validate.ensures told.is_wrong.ensures c.if-is_wrong.false
+first_door-requires c = taken-front _ c.validate.ensures c.is_wrong.ensures c.if-is_wrong.false
 
 pub returns-then-door-first_door : goal.returns-then-door-first_door
-returns-then-door-first_door c = let sound = c in
-    let told = sound in
-    given_accepted _ told.validate.ensures told.is_wrong.ensures _ sound.if-is_wrong.false
+returns-then-door-first_door c = given_accepted _ c.validate.ensures c.is_wrong.ensures _ c.if-is_wrong.false
     (rw (lt-leb _ _ (rw c.first_door.ensures at c.if-door-first_door.true)))
 
 pub last_door-requires : goal.last_door-requires
-last_door-requires c = let sound = c in
-    let told = sound in
-    taken-front _ told.validate.ensures told.is_wrong.ensures sound.if-is_wrong.false
+last_door-requires c = taken-front _ c.validate.ensures c.is_wrong.ensures c.if-is_wrong.false
 
 pub returns : goal.returns
-returns c = let above = c in
-    let sound = above in
-    let told = sound in
-    given_accepted _ told.validate.ensures told.is_wrong.ensures _ sound.if-is_wrong.false
-    (rw (le-leb _ _ (rw above.first_door.ensures at above.if-door-first_door.false), c.last_door.ensures))
+returns c = given_accepted _ c.validate.ensures c.is_wrong.ensures _ c.if-is_wrong.false
+    (rw (le-leb _ _ (rw c.first_door.ensures at c.if-door-first_door.false), c.last_door.ensures))

@@ -16,15 +16,12 @@ grant_in-g-requires c = (c.requires, omega (arith, c.loop-i.invariant.0))
 
 pub returns-then-g-number : goal.returns-then-g-number
 returns-then-g-number c =
-    let at = c in
-    numbered_here _ _ at.loop-i.i c.grant_in-g.ensures c.if-g-number.true ∙ at.loop-i.invariant.1
+    numbered_here _ _ c.loop-i.i c.grant_in-g.ensures c.if-g-number.true ∙ c.loop-i.invariant.1
 
 pub loop-i-preserved : goal.loop-i-preserved
 loop-i-preserved c =
-    let at = c in
-    (at.loop-i.invariant.0, numbered_next _ _ at.loop-i.i c.grant_in-g.ensures c.if-g-number.false ∙ at.loop-i.invariant.1)
+    (c.loop-i.invariant.0, numbered_next _ _ c.loop-i.i c.grant_in-g.ensures c.if-g-number.false ∙ c.loop-i.invariant.1)
 
 pub returns : goal.returns
 returns c =
-    let at = c in
-    numbered-end _ _ at.loop-i.i (omega (arith, at.loop-i.invariant.0)) ∙ at.loop-i.invariant.1
+    numbered-end _ _ c.loop-i.i (omega (arith, c.loop-i.invariant.0)) ∙ c.loop-i.invariant.1

@@ -3,13 +3,10 @@ use Rattle.file_contents.proofs.ContentsSteps.{given_refused, given_accepted, ta
 use Rattle.file_contents.proofs.lookup.numbered.Goals as goal
 
 pub returns-then-is_wrong : goal.returns-then-is_wrong
-returns-then-is_wrong c = let told = c in
-    given_refused _ told.validate.ensures told.is_wrong.ensures _ c.if-is_wrong.true
+returns-then-is_wrong c = given_refused _ c.validate.ensures c.is_wrong.ensures _ c.if-is_wrong.true
 
 pub find_number-requires : goal.find_number-requires
-find_number-requires c = let told = c in
-    taken _ told.validate.ensures told.is_wrong.ensures c.if-is_wrong.false
+find_number-requires c = taken _ c.validate.ensures c.is_wrong.ensures c.if-is_wrong.false
 
 pub returns : goal.returns
-returns c = let told = c in
-    given_accepted _ told.validate.ensures told.is_wrong.ensures _ c.if-is_wrong.false c.find_number.ensures
+returns c = given_accepted _ c.validate.ensures c.is_wrong.ensures _ c.if-is_wrong.false c.find_number.ensures

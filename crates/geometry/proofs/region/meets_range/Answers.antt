@@ -11,19 +11,16 @@ loop-n-init c = (search rules, refl)
 
 pub returns-then-region-n : goal.returns-then-region-n
 returns-then-region-n c =
-    let i = c in
-    sym (i.loop-n.invariant.1 ∙ each_fails _ _ i.loop-n-test.true (rw (lt-leb _ _ c.if-region-n.true)))
+    sym (c.loop-n.invariant.1 ∙ each_fails _ _ c.loop-n-test.true (rw (lt-leb _ _ c.if-region-n.true)))
 
 pub returns-then-range-n : goal.returns-then-range-n
 returns-then-range-n c =
-    let i = c in
-    sym (i.loop-n.invariant.1 ∙ each_fails _ _ i.loop-n-test.true (simp (lt-leb _ _ c.if-range-n.true, and_false)))
+    sym (c.loop-n.invariant.1 ∙ each_fails _ _ c.loop-n-test.true (simp (lt-leb _ _ c.if-range-n.true, and_false)))
 
 pub loop-n-preserved : goal.loop-n-preserved
 loop-n-preserved c =
-    let i = c in
     let first = c.if-region-n.false in
-    (search rules, i.loop-n.invariant.1 ∙ each-passes _ _ i.loop-n-test.true (rw (le-leb _ _ first, le-leb _ _ c.if-range-n.false)))
+    (search rules, c.loop-n.invariant.1 ∙ each-passes _ _ c.loop-n-test.true (rw (le-leb _ _ first, le-leb _ _ c.if-range-n.false)))
 
 pub returns : goal.returns
 returns c = sym (c.loop-n.invariant.1 ∙ each-end _ _ c.loop-n-test.false)

@@ -4,14 +4,8 @@ use Rattle.geometry.proofs.region.side_of.Goals as goal
 
 pub returns-then-wide-middle : goal.returns-then-wide-middle
 returns-then-wide-middle c =
-    let x = c in
-    let high = x in
-    let low = high in
-    rw (← x.wide-3.ensures.0, ← low.wide.ensures.0, ← high.wide-2.ensures.0, le-leb _ _ c.if-wide-middle.true)
+    rw (← c.wide-3.ensures.0, ← c.wide.ensures.0, ← c.wide-2.ensures.0, le-leb _ _ c.if-wide-middle.true)
 
 pub returns-else-wide-middle : goal.returns-else-wide-middle
 returns-else-wide-middle c =
-    let x = c in
-    let high = x in
-    let low = high in
-    rw (← x.wide-3.ensures.0, ← low.wide.ensures.0, ← high.wide-2.ensures.0, lt-leb _ _ c.if-wide-middle.false)
+    rw (← c.wide-3.ensures.0, ← c.wide.ensures.0, ← c.wide-2.ensures.0, lt-leb _ _ c.if-wide-middle.false)

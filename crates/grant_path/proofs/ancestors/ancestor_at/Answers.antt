@@ -6,22 +6,18 @@ use Rattle.grant_path.proofs.ancestors.ancestor_at.Goals as goal
 
 pub ancestor_from-requires : goal.ancestor_from-requires
 ancestor_from-requires c =
-    let found = c in
-    let a = found.args in
-    let at = subst (LiveFound a.pool.now a.number) c.in-At.is found.find_live-hit.ensures in
+    let a = c.args in
+    let at = subst (LiveFound a.pool.now a.number) c.in-At.is c.find_live-hit.ensures in
     path-starts a.pool.now a.number a.i _ _ _ _ at
 
 pub returns-in-Refused : goal.returns-in-Refused
 returns-in-Refused c =
-    let found = c in
-    let a = found.args in
-    let at = subst (LiveFound a.pool.now a.number) c.in-Refused.is found.find_live-hit.ensures in
+    let a = c.args in
+    let at = subst (LiveFound a.pool.now a.number) c.in-Refused.is c.find_live-hit.ensures in
     path-refused a.pool.now a.number a.i _ at
 
 pub returns-in-At : goal.returns-in-At
 returns-in-At c =
-    let told = c in
-    let found = told in
-    let a = found.args in
-    let at = subst (LiveFound a.pool.now a.number) told.in-At.is found.find_live-hit.ensures in
+    let a = c.args in
+    let at = subst (LiveFound a.pool.now a.number) c.in-At.is c.find_live-hit.ensures in
     path_done a.pool.now a.number a.i _ _ _ _ at c.ancestor_from.ensures

@@ -8,19 +8,16 @@ loop-left-init c = (c.requires, refl)
 
 pub returns-then-above-eq0 : goal.returns-then-above-eq0
 returns-then-above-eq0 c =
-    let inner = c in
-    ancestor_end _ _ _ _ inner.loop-left-test.true c.if-above-eq0.true ∙ inner.loop-left.invariant.1
+    ancestor_end _ _ _ _ c.loop-left-test.true c.if-above-eq0.true ∙ c.loop-left.invariant.1
 
 pub field-requires : goal.field-requires
 field-requires c = walk_cell c.loop-left.invariant.0
 
 pub loop-left-preserved : goal.loop-left-preserved
 loop-left-preserved c =
-    let one = c in
-    let inner = one in
-    let here = inner.loop-left.invariant in
+    let here = c.loop-left.invariant in
     let named = c.wide-at.ensures.0 ∙ c.field.ensures in
-    (walk_parent here.0 one.if-above-eq0.false named, ancestor_parent _ _ named _ _ inner.loop-left-test.true one.if-above-eq0.false ∙ here.1)
+    (walk_parent here.0 c.if-above-eq0.false named, ancestor_parent _ _ named _ _ c.loop-left-test.true c.if-above-eq0.false ∙ here.1)
 
 pub overflow_cast-result : goal.overflow_cast-result
 overflow_cast-result c = let cell = walk_cell c.loop-left.invariant.0 in search rules
@@ -30,5 +27,4 @@ grant_at-requires c = walk_cell c.loop-left.invariant.0
 
 pub returns : goal.returns
 returns c =
-    let end = c in
-    rw c.grant_at.ensures (ancestor_here _ _ _ _ end.loop-left-test.false ∙ end.loop-left.invariant.1)
+    rw c.grant_at.ensures (ancestor_here _ _ _ _ c.loop-left-test.false ∙ c.loop-left.invariant.1)

@@ -13,15 +13,10 @@ returns-then-block-2 c =
 
 pub returns-then-block-3 : goal.returns-then-block-3
 returns-then-block-3 c =
-    let second = c in
-    let first = second in
-    let a = first.args in
-    form_third a.block.now a.form (omega arith) first.if-block.false second.if-block-2.false c.if-block-3.true
+    let a = c.args in
+    form_third a.block.now a.form (omega arith) c.if-block.false c.if-block-2.false c.if-block-3.true
 
 pub returns : goal.returns
 returns c =
-    let third = c in
-    let second = third in
-    let first = second in
-    let a = first.args in
-    form_fourth a.block.now a.form (omega arith) first.if-block.false second.if-block-2.false third.if-block-3.false
+    let a = c.args in
+    form_fourth a.block.now a.form (omega arith) c.if-block.false c.if-block-2.false c.if-block-3.false

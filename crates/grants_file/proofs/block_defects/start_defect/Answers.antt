@@ -7,24 +7,16 @@ pub returns-then-wrong_checksum : goal.returns-then-wrong_checksum
 returns-then-wrong_checksum c = start-checksum _ _ (sym c.if-wrong_checksum.true ∙ c.wrong_checksum.ensures)
 
 pub returns-then-count_at-number : goal.returns-then-count_at-number
-returns-then-count_at-number c = let number = c in
-    let mark = number in
-    let check = mark in
-    start_sound _ _ (sym check.if-wrong_checksum.false ∙ check.wrong_checksum.ensures) (sym mark.if-has_form.true ∙ mark.has_form.ensures)
-    number.count_at.ensures.0
+returns-then-count_at-number c = start_sound _ _ (sym c.if-wrong_checksum.false ∙ c.wrong_checksum.ensures) (sym c.if-has_form.true ∙ c.has_form.ensures)
+    c.count_at.ensures.0
     c.if-count_at-number.true
 
 pub returns-then-has_form : goal.returns-then-has_form
-returns-then-has_form c = let number = c in
-    let mark = number in
-    let check = mark in
-    start-number _ _ (sym check.if-wrong_checksum.false ∙ check.wrong_checksum.ensures) (sym mark.if-has_form.true ∙ mark.has_form.ensures)
-    number.count_at.ensures.0
+returns-then-has_form c = start-number _ _ (sym c.if-wrong_checksum.false ∙ c.wrong_checksum.ensures) (sym c.if-has_form.true ∙ c.has_form.ensures)
+    c.count_at.ensures.0
     c.if-count_at-number.false
 
 pub returns : goal.returns
 returns c =
-    let mark = c in
-    let check = mark in
-    start_mark _ _ (sym check.if-wrong_checksum.false ∙ check.wrong_checksum.ensures) (sym mark.if-has_form.false ∙ mark.has_form.ensures)
+    start_mark _ _ (sym c.if-wrong_checksum.false ∙ c.wrong_checksum.ensures) (sym c.if-has_form.false ∙ c.has_form.ensures)
     c.has_form-2.ensures

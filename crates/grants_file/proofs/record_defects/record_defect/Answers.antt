@@ -6,35 +6,20 @@ use Rattle.grants_file.proofs.record_defects.record_defect.Goals as goal
 
 pub returns-then-g-last : goal.returns-then-g-last
 returns-then-g-last c =
-    let read = c in
-    let a = read.args in
-    record_number_lem (record { from = a.from; to = a.to }) _ _ _ a.block.now (record_place a.i) read.decode_record-g.ensures c.if-g-last.true
+    let a = c.args in
+    record_number_lem (record { from = a.from; to = a.to }) _ _ _ a.block.now (record_place a.i) c.decode_record-g.ensures c.if-g-last.true
 
 pub returns-then-overlap_on : goal.returns-then-overlap_on
 returns-then-overlap_on c =
-    let touch = c in
-    let told = touch in
-    let checked = told in
-    let above = checked in
-    let read = above in
-    record_sound _ _ _ _ read.args.block.now _ read.decode_record-g.ensures above.if-g-last.false checked.check_request-check.ensures
-    told.in-Right.is (sym c.if-overlap_on.true ∙ touch.overlap_on.ensures)
+    record_sound _ _ _ _ c.args.block.now _ c.decode_record-g.ensures c.if-g-last.false c.check_request-check.ensures
+    c.in-Right.is (sym c.if-overlap_on.true ∙ c.overlap_on.ensures)
 
 pub returns-in-Wrong : goal.returns-in-Wrong
 returns-in-Wrong c =
-    let told = c in
-    let checked = told in
-    let above = checked in
-    let read = above in
-    record_wrong _ _ _ _ read.args.block.now _ read.decode_record-g.ensures above.if-g-last.false checked.check_request-check.ensures
-    told.in-Wrong.is c.record_fault.ensures
+    record_wrong _ _ _ _ c.args.block.now _ c.decode_record-g.ensures c.if-g-last.false c.check_request-check.ensures
+    c.in-Wrong.is c.record_fault.ensures
 
 pub returns-else-overlap_on : goal.returns-else-overlap_on
 returns-else-overlap_on c =
-    let touch = c in
-    let told = touch in
-    let checked = told in
-    let above = checked in
-    let read = above in
-    record_doors _ _ _ _ read.args.block.now _ read.decode_record-g.ensures above.if-g-last.false checked.check_request-check.ensures
-    told.in-Right.is (sym c.if-overlap_on.false ∙ touch.overlap_on.ensures)
+    record_doors _ _ _ _ c.args.block.now _ c.decode_record-g.ensures c.if-g-last.false c.check_request-check.ensures
+    c.in-Right.is (sym c.if-overlap_on.false ∙ c.overlap_on.ensures)

@@ -11,21 +11,17 @@ loop-i-init c = (search rules, search rules, search rules, rw (records_start c.a
 
 pub returns-then-is_wrong : goal.returns-then-is_wrong
 returns-then-is_wrong c =
-    let told = c in
-    let defect = told in
-    let l = defect.loop-i in
-    records_wrong _ _ _ _ _ _ defect.loop-i-test.true defect.record_defect-defect.ensures (sym c.if-is_wrong.true ∙ told.is_wrong.ensures) ∙ l.invariant.3
+    let l = c.loop-i in
+    records_wrong _ _ _ _ _ _ c.loop-i-test.true c.record_defect-defect.ensures (sym c.if-is_wrong.true ∙ c.is_wrong.ensures) ∙ l.invariant.3
 
 pub loop-i-preserved : goal.loop-i-preserved
 loop-i-preserved c =
-    let told = c in
-    let defect = told in
-    let l = defect.loop-i in (
+    let l = c.loop-i in (
       omega arith,
       l.invariant.1,
       l.invariant.2,
-      records_next _ _ _ _ _ _ defect.loop-i-test.true defect.record_defect-defect.ensures
-          (sym c.if-is_wrong.false ∙ told.is_wrong.ensures) c.be16_at-last.ensures ∙ l.invariant.3,
+      records_next _ _ _ _ _ _ c.loop-i-test.true c.record_defect-defect.ensures
+          (sym c.if-is_wrong.false ∙ c.is_wrong.ensures) c.be16_at-last.ensures ∙ l.invariant.3,
     )
 
 pub returns : goal.returns

@@ -16,15 +16,13 @@ loop-i-init c =
 
 pub returns-in_default : goal.returns-in_default
 returns-in_default c =
-    let answer = c in
-    let l = answer.loop-i in
-    rw (c.refused_defect.ensures, c.in_default.is) (blocks_wrong _ l.i (omega arith) _ (sym answer.block_answer-answer.ensures ∙ c.in_default.is) ∙ l.invariant.4)
+    let l = c.loop-i in
+    rw (c.refused_defect.ensures, c.in_default.is) (blocks_wrong _ l.i (omega arith) _ (sym c.block_answer-answer.ensures ∙ c.in_default.is) ∙ l.invariant.4)
 
 pub loop-i-preserved : goal.loop-i-preserved
 loop-i-preserved c =
-    let answer = c in
-    let l = answer.loop-i in
-    let sound = blocks_sound _ l.i (omega arith) _ (sym answer.block_answer-answer.ensures ∙ c.in-Sound.is) in
+    let l = c.loop-i in
+    let sound = blocks_sound _ l.i (omega arith) _ (sym c.block_answer-answer.ensures ∙ c.in-Sound.is) in
     (omega arith, l.invariant.1, l.invariant.2, sound.1, sound.0 ∙ l.invariant.4)
 
 pub returns : goal.returns

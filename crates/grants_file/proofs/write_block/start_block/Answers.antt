@@ -4,9 +4,5 @@ use Rattle.grants_file.proofs.write_block.start_block.Goals as goal
 
 pub returns : goal.returns
 returns c =
-    let counted = c in
-    let numbered = counted in
-    let marked = numbered in
-    let start = marked in
-    block-started start.args.block.now start.args.number start.args.count marked.put_magic.ensures numbered.put_be16.ensures
-    counted.put_be16-2.ensures
+    block-started c.args.block.now c.args.number c.args.count c.put_magic.ensures c.put_be16.ensures
+    c.put_be16-2.ensures

@@ -4,10 +4,5 @@ use Rattle.grants_file.proofs.write_block.write_header.Goals as goal
 
 pub returns : goal.returns
 returns c =
-    let sealed = c in
-    let to = sealed in
-    let from = to in
-    let started = from in
-    let start = started in
-    header_block_lem start.args.block.now start.args.total (record { from = start.args.from; to = start.args.to }) start.requires
-    started.start_block.ensures from.put_be16.ensures to.put_be16-2.ensures sealed.seal.ensures
+    header_block_lem c.args.block.now c.args.total (record { from = c.args.from; to = c.args.to }) c.requires
+    c.start_block.ensures c.put_be16.ensures c.put_be16-2.ensures c.seal.ensures

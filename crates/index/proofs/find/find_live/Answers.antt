@@ -10,43 +10,32 @@ returns-then-cells-eq0 c = live_pool c.args.pool.now _ (pool_refused _ c.capacit
 
 pub returns-then-number-eq0 : goal.returns-then-number-eq0
 returns-then-number-eq0 c =
-    let one = c in
-    let a = one.args in
-    let t = pool_taken a.pool.now one.capacity-cells.ensures one.if-cells-eq0.false in
+    let a = c.args in
+    let t = pool_taken a.pool.now c.capacity-cells.ensures c.if-cells-eq0.false in
     live_zero a.pool.now _ t.right c.if-number-eq0.true
 
 pub find_number-hit-requires : goal.find_number-hit-requires
 find_number-hit-requires c =
-    let one = c in
-    let a = one.args in
-    (pool_taken a.pool.now one.capacity-cells.ensures one.if-cells-eq0.false).sized
+    let a = c.args in
+    (pool_taken a.pool.now c.capacity-cells.ensures c.if-cells-eq0.false).sized
 
 pub returns-in-Broken : goal.returns-in-Broken
 returns-in-Broken c =
-    let found = c in
-    let two = found in
-    let one = two in
-    let a = one.args in
-    let t = pool_taken a.pool.now one.capacity-cells.ensures one.if-cells-eq0.false in
-    let number = subst (NumberFound a.pool.now a.number) c.in-Broken.is found.find_number-hit.ensures in
-    live-broken a.pool.now _ t.right two.if-number-eq0.false number
+    let a = c.args in
+    let t = pool_taken a.pool.now c.capacity-cells.ensures c.if-cells-eq0.false in
+    let number = subst (NumberFound a.pool.now a.number) c.in-Broken.is c.find_number-hit.ensures in
+    live-broken a.pool.now _ t.right c.if-number-eq0.false number
 
 pub returns-in-Absent : goal.returns-in-Absent
 returns-in-Absent c =
-    let found = c in
-    let two = found in
-    let one = two in
-    let a = one.args in
-    let t = pool_taken a.pool.now one.capacity-cells.ensures one.if-cells-eq0.false in
-    let number = subst (NumberFound a.pool.now a.number) c.in-Absent.is found.find_number-hit.ensures in
-    live_absent a.pool.now _ t.right two.if-number-eq0.false number
+    let a = c.args in
+    let t = pool_taken a.pool.now c.capacity-cells.ensures c.if-cells-eq0.false in
+    let number = subst (NumberFound a.pool.now a.number) c.in-Absent.is c.find_number-hit.ensures in
+    live_absent a.pool.now _ t.right c.if-number-eq0.false number
 
 pub returns-in-At : goal.returns-in-At
 returns-in-At c =
-    let found = c in
-    let two = found in
-    let one = two in
-    let a = one.args in
-    let t = pool_taken a.pool.now one.capacity-cells.ensures one.if-cells-eq0.false in
-    let number = subst (NumberFound a.pool.now a.number) c.in-At.is found.find_number-hit.ensures in
-    live_at a.pool.now _ t.right two.if-number-eq0.false t.sized _ _ _ number
+    let a = c.args in
+    let t = pool_taken a.pool.now c.capacity-cells.ensures c.if-cells-eq0.false in
+    let number = subst (NumberFound a.pool.now a.number) c.in-At.is c.find_number-hit.ensures in
+    live_at a.pool.now _ t.right c.if-number-eq0.false t.sized _ _ _ number

@@ -9,30 +9,21 @@ use Rattle.index.proofs.grant.grant.Goals as goal
 
 pub insert-requires : goal.insert-requires
 insert-requires c =
-    let planned = c in
-    let start = planned in
-    let a = start.args in
+    let a = c.args in
     let r = request a.number a.rank a.kind a.bounds in
-    let at = subst (GrantPlanned a.pool.now r) c.in-At.is planned.plan_insertion-plan.ensures in
+    let at = subst (GrantPlanned a.pool.now r) c.in-At.is c.plan_insertion-plan.ensures in
     plan_inserts _ r _ _ _ _ _ at
 
 pub returns-in-Refused : goal.returns-in-Refused
 returns-in-Refused c =
-    let planned = c in
-    let start = planned in
-    let a = start.args in
+    let a = c.args in
     let r = request a.number a.rank a.kind a.bounds in
-    let at = subst (GrantPlanned a.pool.now r) c.in-Refused.is planned.plan_insertion-plan.ensures in
+    let at = subst (GrantPlanned a.pool.now r) c.in-Refused.is c.plan_insertion-plan.ensures in
     grant-refused a.pool.now r _ at
 
 pub returns-in-At : goal.returns-in-At
 returns-in-At c =
-    let stored = c in
-    let asked = stored in
-    let told = asked in
-    let planned = told in
-    let start = planned in
-    let a = start.args in
+    let a = c.args in
     let r = request a.number a.rank a.kind a.bounds in
-    let at = subst (GrantPlanned a.pool.now r) told.in-At.is planned.plan_insertion-plan.ensures in
-    grant_done a.pool.now r _ _ _ _ at (stored.insert.ensures ∙ ap (inserted _ _ _) asked.requested.ensures)
+    let at = subst (GrantPlanned a.pool.now r) c.in-At.is c.plan_insertion-plan.ensures in
+    grant_done a.pool.now r _ _ _ _ at (c.insert.ensures ∙ ap (inserted _ _ _) c.requested.ensures)

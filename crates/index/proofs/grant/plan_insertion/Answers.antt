@@ -14,58 +14,41 @@ returns-then-cells-eq0 c =
 
 pub returns-in-Wrong : goal.returns-in-Wrong
 returns-in-Wrong c =
-    let told = c in
-    let checked = told in
-    let one = checked in
-    let a = one.args in
+    let a = c.args in
     let r = request a.number a.rank a.kind a.bounds in
-    let t = pool_taken a.pool.now one.capacity-cells.ensures one.if-cells-eq0.false in
-    grant_wrong a.pool.now r t.right checked.check_request-check.ensures told.in-Wrong.is c.fault_of.ensures
+    let t = pool_taken a.pool.now c.capacity-cells.ensures c.if-cells-eq0.false in
+    grant_wrong a.pool.now r t.right c.check_request-check.ensures c.in-Wrong.is c.fault_of.ensures
 
 pub find_number-hit-requires : goal.find_number-hit-requires
 find_number-hit-requires c =
-    let one = c in
-    let a = one.args in
-    (pool_taken a.pool.now one.capacity-cells.ensures one.if-cells-eq0.false).sized
+    let a = c.args in
+    (pool_taken a.pool.now c.capacity-cells.ensures c.if-cells-eq0.false).sized
 
 pub plan_slot-requires : goal.plan_slot-requires
 plan_slot-requires c =
-    let one = c in
-    let a = one.args in
-    (pool_taken a.pool.now one.capacity-cells.ensures one.if-cells-eq0.false).sized
+    let a = c.args in
+    (pool_taken a.pool.now c.capacity-cells.ensures c.if-cells-eq0.false).sized
 
 pub returns-in-Broken : goal.returns-in-Broken
 returns-in-Broken c =
-    let found = c in
-    let told = found in
-    let checked = told in
-    let one = checked in
-    let a = one.args in
+    let a = c.args in
     let r = request a.number a.rank a.kind a.bounds in
-    let t = pool_taken a.pool.now one.capacity-cells.ensures one.if-cells-eq0.false in
-    let number = subst (NumberFound a.pool.now a.number) c.in-Broken.is found.find_number-hit.ensures in
-    grant-broken a.pool.now r t.right checked.check_request-check.ensures told.in-Right.is number
+    let t = pool_taken a.pool.now c.capacity-cells.ensures c.if-cells-eq0.false in
+    let number = subst (NumberFound a.pool.now a.number) c.in-Broken.is c.find_number-hit.ensures in
+    grant-broken a.pool.now r t.right c.check_request-check.ensures c.in-Right.is number
 
 pub returns-in-At : goal.returns-in-At
 returns-in-At c =
-    let found = c in
-    let told = found in
-    let checked = told in
-    let one = checked in
-    let a = one.args in
+    let a = c.args in
     let r = request a.number a.rank a.kind a.bounds in
-    let t = pool_taken a.pool.now one.capacity-cells.ensures one.if-cells-eq0.false in
-    let number = subst (NumberFound a.pool.now a.number) c.in-At.is found.find_number-hit.ensures in
-    grant-live a.pool.now r t.right checked.check_request-check.ensures told.in-Right.is _ _ _ number
+    let t = pool_taken a.pool.now c.capacity-cells.ensures c.if-cells-eq0.false in
+    let number = subst (NumberFound a.pool.now a.number) c.in-At.is c.find_number-hit.ensures in
+    grant-live a.pool.now r t.right c.check_request-check.ensures c.in-Right.is _ _ _ number
 
 pub returns-in-Absent : goal.returns-in-Absent
 returns-in-Absent c =
-    let found = c in
-    let told = found in
-    let checked = told in
-    let one = checked in
-    let a = one.args in
+    let a = c.args in
     let r = request a.number a.rank a.kind a.bounds in
-    let t = pool_taken a.pool.now one.capacity-cells.ensures one.if-cells-eq0.false in
-    let number = subst (NumberFound a.pool.now a.number) c.in-Absent.is found.find_number-hit.ensures in
-    grant_absent a.pool.now r t.right checked.check_request-check.ensures told.in-Right.is number _ c.plan_slot.ensures
+    let t = pool_taken a.pool.now c.capacity-cells.ensures c.if-cells-eq0.false in
+    let number = subst (NumberFound a.pool.now a.number) c.in-Absent.is c.find_number-hit.ensures in
+    grant_absent a.pool.now r t.right c.check_request-check.ensures c.in-Right.is number _ c.plan_slot.ensures

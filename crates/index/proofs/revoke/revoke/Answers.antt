@@ -6,22 +6,18 @@ use Rattle.index.proofs.revoke.revoke.Goals as goal
 
 pub remove-requires : goal.remove-requires
 remove-requires c =
-    let planned = c in
-    let a = planned.args in
-    let at = subst (RemovalPlanned a.pool.now a.number) c.in-Of.is planned.plan_removal-removal.ensures in
+    let a = c.args in
+    let at = subst (RemovalPlanned a.pool.now a.number) c.in-Of.is c.plan_removal-removal.ensures in
     plan_removes a.pool.now _ _ _ _ _ _ at
 
 pub returns-in-Refused : goal.returns-in-Refused
 returns-in-Refused c =
-    let planned = c in
-    let a = planned.args in
-    let at = subst (RemovalPlanned a.pool.now a.number) c.in-Refused.is planned.plan_removal-removal.ensures in
+    let a = c.args in
+    let at = subst (RemovalPlanned a.pool.now a.number) c.in-Refused.is c.plan_removal-removal.ensures in
     revoke-refused a.pool.now _ _ at
 
 pub returns-in-Of : goal.returns-in-Of
 returns-in-Of c =
-    let told = c in
-    let planned = told in
-    let a = planned.args in
-    let at = subst (RemovalPlanned a.pool.now a.number) told.in-Of.is planned.plan_removal-removal.ensures in
+    let a = c.args in
+    let at = subst (RemovalPlanned a.pool.now a.number) c.in-Of.is c.plan_removal-removal.ensures in
     revoke_done a.pool.now _ _ _ _ _ _ at c.remove.ensures

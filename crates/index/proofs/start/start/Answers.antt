@@ -8,11 +8,9 @@ returns-then-cells-eq0 c = start-refused _ (length-refused _ c.length_capacity-c
 
 pub make_fresh-requires : goal.make_fresh-requires
 make_fresh-requires c =
-    let one = c in
-    (length_taken one.args.pool.now one.length_capacity-cells.ensures one.if-cells-eq0.false).sized
+    (length_taken c.args.pool.now c.length_capacity-cells.ensures c.if-cells-eq0.false).sized
 
 pub returns : goal.returns
 returns c =
-    let one = c in
-    let t = length_taken one.args.pool.now one.length_capacity-cells.ensures one.if-cells-eq0.false in
+    let t = length_taken c.args.pool.now c.length_capacity-cells.ensures c.if-cells-eq0.false in
     start_done _ t.right t.sized c.make_fresh.ensures

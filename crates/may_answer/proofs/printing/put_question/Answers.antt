@@ -5,10 +5,7 @@ use Rattle.may_answer.proofs.printing.put_question.Goals as goal
 
 pub returns : goal.returns
 returns c =
-    let note = c in
-    let quarter = note in
-    let door = quarter in
-    let staff = door.put_numbered-second.ensures in (
-      put_then (put_then (put_then staff.0 door.put_numbered-third.ensures.0) quarter.put_numbered-end.ensures.0) note.put_note.ensures.0,
-      omega (arith, staff.1, door.put_numbered-third.ensures.1, quarter.put_numbered-end.ensures.1, note.put_note.ensures.1),
+    let staff = c.put_numbered-second.ensures in (
+      put_then (put_then (put_then staff.0 c.put_numbered-third.ensures.0) c.put_numbered-end.ensures.0) c.put_note.ensures.0,
+      omega (arith, staff.1, c.put_numbered-third.ensures.1, c.put_numbered-end.ensures.1, c.put_note.ensures.1),
     )

@@ -15,24 +15,16 @@ returns-then-kind-gt1 c = rw (ne_eqb _ _ c.if-number-eq0.false, lt-ltb _ _ c.if-
 pub returns-then-is_reversed : goal.returns-then-is_reversed
 unfolding first_wrong
 returns-then-is_reversed c =
-    let told = c in
-    let kind = told in
-    rw (ne_eqb _ _ kind.if-number-eq0.false, le-ltb _ _ kind.if-kind-gt1.false, sym told.is_reversed.ensures ∙ c.if-is_reversed.true)
+    rw (ne_eqb _ _ c.if-number-eq0.false, le-ltb _ _ c.if-kind-gt1.false, sym c.is_reversed.ensures ∙ c.if-is_reversed.true)
 
 pub returns-then-is_rank_too_low : goal.returns-then-is_rank_too_low
 unfolding first_wrong
 returns-then-is_rank_too_low c =
-    let told = c in
-    let box = told in
-    let kind = box in
-    rw (ne_eqb _ _ kind.if-number-eq0.false, le-ltb _ _ kind.if-kind-gt1.false, sym box.is_reversed.ensures ∙ box.if-is_reversed.false)
-    (rw (sym told.is_rank_too_low.ensures ∙ c.if-is_rank_too_low.true))
+    rw (ne_eqb _ _ c.if-number-eq0.false, le-ltb _ _ c.if-kind-gt1.false, sym c.is_reversed.ensures ∙ c.if-is_reversed.false)
+    (rw (sym c.is_rank_too_low.ensures ∙ c.if-is_rank_too_low.true))
 
 pub returns : goal.returns
 unfolding first_wrong
 returns c =
-    let told = c in
-    let box = told in
-    let kind = box in
-    rw (ne_eqb _ _ kind.if-number-eq0.false, le-ltb _ _ kind.if-kind-gt1.false, sym box.is_reversed.ensures ∙ box.if-is_reversed.false)
-    (rw (sym told.is_rank_too_low.ensures ∙ c.if-is_rank_too_low.false))
+    rw (ne_eqb _ _ c.if-number-eq0.false, le-ltb _ _ c.if-kind-gt1.false, sym c.is_reversed.ensures ∙ c.if-is_reversed.false)
+    (rw (sym c.is_rank_too_low.ensures ∙ c.if-is_rank_too_low.false))

@@ -12,46 +12,31 @@ returns-then-a-b c = rw (ne_eqb _ _ c.if-a-b.true)
 pub returns-then-a-b-2 : goal.returns-then-a-b-2
 unfolding same_numbers
 returns-then-a-b-2 c =
-    let one = c in
-    rw (eq-eqb _ _ one.if-a-b.false, ne_eqb _ _ c.if-a-b-2.true)
+    rw (eq-eqb _ _ c.if-a-b.false, ne_eqb _ _ c.if-a-b-2.true)
 
 pub returns-then-a-b-3 : goal.returns-then-a-b-3
 unfolding same_numbers
 returns-then-a-b-3 c =
-    let two = c in
-    let one = two in
-    rw (eq-eqb _ _ one.if-a-b.false, eq-eqb _ _ two.if-a-b-2.false, ne_eqb _ _ c.if-a-b-3.true)
+    rw (eq-eqb _ _ c.if-a-b.false, eq-eqb _ _ c.if-a-b-2.false, ne_eqb _ _ c.if-a-b-3.true)
 
 pub returns-then-a-b-4 : goal.returns-then-a-b-4
 unfolding same_numbers
 returns-then-a-b-4 c =
-    let three = c in
-    let two = three in
-    let one = two in
-    rw (eq-eqb _ _ one.if-a-b.false, eq-eqb _ _ two.if-a-b-2.false, eq-eqb _ _ three.if-a-b-3.false, ne_eqb _ _ c.if-a-b-4.true)
+    rw (eq-eqb _ _ c.if-a-b.false, eq-eqb _ _ c.if-a-b-2.false, eq-eqb _ _ c.if-a-b-3.false, ne_eqb _ _ c.if-a-b-4.true)
 
 pub returns-then-a-b-5 : goal.returns-then-a-b-5
 unfolding same_numbers
 returns-then-a-b-5 c =
-    let four = c in
-    let three = four in
-    let two = three in
-    let one = two in
-    rw (eq-eqb _ _ one.if-a-b.false, eq-eqb _ _ two.if-a-b-2.false, eq-eqb _ _ three.if-a-b-3.false, eq-eqb _ _ four.if-a-b-4.false, ne_eqb _ _ c.if-a-b-5.true)
+    rw (eq-eqb _ _ c.if-a-b.false, eq-eqb _ _ c.if-a-b-2.false, eq-eqb _ _ c.if-a-b-3.false, eq-eqb _ _ c.if-a-b-4.false, ne_eqb _ _ c.if-a-b-5.true)
 
 pub returns : goal.returns
 unfolding same_numbers
 returns c =
-    let five = c in
-    let four = five in
-    let three = four in
-    let two = three in
-    let one = two in
     rw (
-      eq-eqb _ _ one.if-a-b.false,
-      eq-eqb _ _ two.if-a-b-2.false,
-      eq-eqb _ _ three.if-a-b-3.false,
-      eq-eqb _ _ four.if-a-b-4.false,
-      eq-eqb _ _ five.if-a-b-5.false,
+      eq-eqb _ _ c.if-a-b.false,
+      eq-eqb _ _ c.if-a-b-2.false,
+      eq-eqb _ _ c.if-a-b-3.false,
+      eq-eqb _ _ c.if-a-b-4.false,
+      eq-eqb _ _ c.if-a-b-5.false,
     )
     (sym (and-true _))

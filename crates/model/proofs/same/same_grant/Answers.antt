@@ -16,23 +16,14 @@ returns-then-g-h-2 c = rw (eq-eqb _ _ c.if-g-h.false, ne_eqb _ _ c.if-g-h-2.true
 pub returns-then-kind_number : goal.returns-then-kind_number
 unfolding same_grant same_numbers
 returns-then-kind_number c =
-    let theirs = c in
-    let ours = theirs in
-    let two = ours in
-    let one = two in
     rw (
-      eq-eqb _ _ one.if-g-h.false,
-      eq-eqb _ _ two.if-g-h-2.false,
-      ne_eqb _ _ (λ e. c.if-kind_number.true (ours.kind_number.ensures.0 ∙ e ∙ sym theirs.kind_number-2.ensures.0)),
+      eq-eqb _ _ c.if-g-h.false,
+      eq-eqb _ _ c.if-g-h-2.false,
+      ne_eqb _ _ (λ e. c.if-kind_number.true (c.kind_number.ensures.0 ∙ e ∙ sym c.kind_number-2.ensures.0)),
     )
 
 pub returns : goal.returns
 unfolding same_grant same_numbers
 returns c =
-    let three = c in
-    let theirs = three in
-    let ours = theirs in
-    let two = ours in
-    let one = two in
-    let kind = sym ours.kind_number.ensures.0 ∙ three.if-kind_number.false ∙ theirs.kind_number-2.ensures.0 in
-    rw (eq-eqb _ _ one.if-g-h.false, eq-eqb _ _ two.if-g-h-2.false, eq-eqb _ _ kind) c.same_box.ensures
+    let kind = sym c.kind_number.ensures.0 ∙ c.if-kind_number.false ∙ c.kind_number-2.ensures.0 in
+    rw (eq-eqb _ _ c.if-g-h.false, eq-eqb _ _ c.if-g-h-2.false, eq-eqb _ _ kind) c.same_box.ensures

@@ -11,8 +11,7 @@ pub slice_bounds-sort_and_count-end-2 : goal.slice_bounds-sort_and_count-end-2
 slice_bounds-sort_and_count-end-2 c = sym (length-take-replicate 4096 _ 0 (omega arith))
 
 pub sort_and_count-requires : goal.sort_and_count-requires
-sort_and_count-requires c =
-    let start = c in (
-      record { sized = start.requires.0; room = length-take-replicate 4096 _ 0 (omega arith) ∙ c.entries_in-n.ensures },
-      record { sized = start.requires.1; room = length-take-replicate 4096 _ 0 (omega arith) ∙ c.entries_in-m.ensures },
-    )
+sort_and_count-requires c = (
+  record { sized = c.requires.0; room = length-take-replicate 4096 _ 0 (omega arith) ∙ c.entries_in-n.ensures },
+  record { sized = c.requires.1; room = length-take-replicate 4096 _ 0 (omega arith) ∙ c.entries_in-m.ensures },
+)

@@ -18,47 +18,42 @@ loop-i-init c =
 pub returns-then-j-panel_places : goal.returns-then-j-panel_places
 returns-then-j-panel_places c =
     let l = c.loop-i in
-    let start = c in
-    let door = start.args.door.now in
-    let panel = start.args.panel.now in
-    omega (arith, l.invariant.2, agreeing_ends_right door panel l.i l.j (omega (arith, ap length start.requires.1)))
+    let door = c.args.door.now in
+    let panel = c.args.panel.now in
+    omega (arith, l.invariant.2, agreeing_ends_right door panel l.i l.j (omega (arith, ap length c.requires.1)))
 
 pub entry_at-x-requires : goal.entry_at-x-requires
 entry_at-x-requires c =
     let l = c.loop-i in
-    let start = c in
-    rw (c.wide.ensures, start.requires.0)
-    (sorted_places-inside start.args.door.now l.i (omega (arith, ap length start.requires.0)))
+    rw (c.wide.ensures, c.requires.0)
+    (sorted_places-inside c.args.door.now l.i (omega (arith, ap length c.requires.0)))
 
 pub entry_at-y-requires : goal.entry_at-y-requires
 entry_at-y-requires c =
     let l = c.loop-i in
-    let start = c in
-    rw (c.wide-in-loop-i.ensures, start.requires.1)
-    (sorted_places-inside start.args.panel.now l.j (omega (arith, ap length start.requires.1)))
+    rw (c.wide-in-loop-i.ensures, c.requires.1)
+    (sorted_places-inside c.args.panel.now l.j (omega (arith, ap length c.requires.1)))
 
 pub overflow_add-agreeing : goal.overflow_add-agreeing
 overflow_add-agreeing c =
-    let start = c in
     let l = c.loop-i in
-    omega (arith, l.invariant.2, agreeing_few start.args.door.now start.args.panel.now, ap length start.requires.0)
+    omega (arith, l.invariant.2, agreeing_few c.args.door.now c.args.panel.now, ap length c.requires.0)
 
 pub loop-i-preserved : goal.loop-i-preserved
 loop-i-preserved c =
     let l = c.loop-i in
-    let start = c in
-    let door = start.args.door.now in
-    let panel = start.args.panel.now in
+    let door = c.args.door.now in
+    let panel = c.args.panel.now in
     let x = c.entry_at-x in
     let y = c.entry_at-y in
     let place = c.wide in
-    let at_x = x.ensures ∙ ap (entry_at door) (place.ensures ∙ ap (λ (ps : List ℕ). get_or ps l.i 0) start.requires.0) in
-    let at_y = y.ensures ∙ ap (entry_at panel) (c.wide-in-loop-i.ensures ∙ ap (λ (ps : List ℕ). get_or ps l.j 0) start.requires.1) in (
+    let at_x = x.ensures ∙ ap (entry_at door) (place.ensures ∙ ap (λ (ps : List ℕ). get_or ps l.i 0) c.requires.0) in
+    let at_y = y.ensures ∙ ap (entry_at panel) (c.wide-in-loop-i.ensures ∙ ap (λ (ps : List ℕ). get_or ps l.j 0) c.requires.1) in (
       omega arith,
       omega arith,
       agreeing_again door panel l.i l.j l.agreeing (agree (entries_of door) (entries_of panel)) x.result y.result
           c.one_if-agreeing.result c.one_if-i.result c.one_if-j.result
-          (omega (arith, ap length start.requires.0)) (omega (arith, ap length start.requires.1)) at_x at_y
+          (omega (arith, ap length c.requires.0)) (omega (arith, ap length c.requires.1)) at_x at_y
           c.one_if-agreeing.ensures.0 c.one_if-i.ensures.0 c.one_if-j.ensures.0 l.invariant.2,
     )
 
@@ -71,7 +66,6 @@ loop-i-smaller c =
 pub returns : goal.returns
 returns c =
     let l = c.loop-i in
-    let start = c in
-    let door = start.args.door.now in
-    let panel = start.args.panel.now in
-    omega (arith, l.invariant.2, agreeing_ends-left door panel l.i l.j (omega (arith, ap length start.requires.0)))
+    let door = c.args.door.now in
+    let panel = c.args.panel.now in
+    omega (arith, l.invariant.2, agreeing_ends-left door panel l.i l.j (omega (arith, ap length c.requires.0)))

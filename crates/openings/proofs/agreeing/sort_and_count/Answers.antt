@@ -3,8 +3,7 @@ use Rattle.openings.proofs.SortedLaws.{sorted_places-room}
 use Rattle.openings.proofs.agreeing.sort_and_count.Goals as goal
 
 pub count_agreeing-requires : goal.count_agreeing-requires
-count_agreeing-requires c =
-    let start = c in (
-      sorted_places-room _ _ _ start.requires.0 c.sort_places.ensures,
-      sorted_places-room _ _ _ start.requires.1 c.sort_places-2.ensures,
-    )
+count_agreeing-requires c = (
+  sorted_places-room _ _ _ c.requires.0 c.sort_places.ensures,
+  sorted_places-room _ _ _ c.requires.1 c.sort_places-2.ensures,
+)

@@ -9,23 +9,18 @@ use Rattle.openings.proofs.compare.compare_openings.Goals as goal
 
 pub returns-then-either : goal.returns-then-either
 returns-then-either c =
-    let sizes = c in
-    let found = sizes in
     compare_wrong_size _ _
-    (told_length _ _ found.record_defect-in_door.ensures found.record_defect-in_panel.ensures c.either.ensures c.if-either.true
-    sizes.is_length.ensures c.is_length-2.ensures)
+    (told_length _ _ c.record_defect-in_door.ensures c.record_defect-in_panel.ensures c.either.ensures c.if-either.true
+    c.is_length.ensures c.is_length-2.ensures)
 
 pub returns-then-either-2 : goal.returns-then-either-2
 returns-then-either-2 c =
     let sized : (wrong_size c.args.door.now || wrong_size c.args.panel.now) ≡ false =
     told_length _ _ c.record_defect-in_door.ensures c.record_defect-in_panel.ensures c.either.ensures c.if-either.false
     c.is_length.ensures c.is_length-2.ensures in
-    let orders = c in
-    let right = orders in
-    let found = right in
     compare-unordered _ _ sized
-    (told_order _ _ found.record_defect-in_door.ensures found.record_defect-in_panel.ensures c.either-2.ensures c.if-either-2.true
-    sized orders.is_order.ensures c.is_order-2.ensures)
+    (told_order _ _ c.record_defect-in_door.ensures c.record_defect-in_panel.ensures c.either-2.ensures c.if-either-2.true
+    sized c.is_order.ensures c.is_order-2.ensures)
 
 pub compare_sound-requires : goal.compare_sound-requires
 compare_sound-requires c =
@@ -40,11 +35,7 @@ returns c =
     let sized : (wrong_size c.args.door.now || wrong_size c.args.panel.now) ≡ false =
     told_length _ _ c.record_defect-in_door.ensures c.record_defect-in_panel.ensures c.either.ensures c.if-either.false
     c.is_length.ensures c.is_length-2.ensures in
-    let tested = c in
-    let orders = tested in
-    let right = orders in
-    let found = right in
     c.compare_sound.ensures
     ∙ compare-accepted _ _ sized
-    (told_order _ _ found.record_defect-in_door.ensures found.record_defect-in_panel.ensures tested.either-2.ensures tested.if-either-2.false
-    sized orders.is_order.ensures tested.is_order-2.ensures)
+    (told_order _ _ c.record_defect-in_door.ensures c.record_defect-in_panel.ensures c.either-2.ensures c.if-either-2.false
+    sized c.is_order.ensures c.is_order-2.ensures)

@@ -5,6 +5,5 @@ use Rattle.openings.proofs.left.is_left.Goals as goal
 
 pub returns : goal.returns
 returns c =
-    let start = c in
     rw (c.count_among-2.ensures, c.count_among.ensures, c.entries_in.ensures, c.entry_at-entry.ensures)
-    (is_left_entry start.args.bytes.now start.args.other.now start.args.place (omega arith))
+    (is_left_entry c.args.bytes.now c.args.other.now c.args.place (omega arith))

@@ -4,10 +4,8 @@ use Rattle.panel.proofs.rows.put_kind.Goals as goal
 
 pub returns-in-Bars : goal.returns-in-Bars
 returns-in-Bars c =
-    let put = c in
-    (rw put.in-Bars.is put.put_text.ensures, omega (arith, put.put_text.ensures.ends))
+    (rw c.in-Bars.is c.put_text.ensures, omega (arith, c.put_text.ensures.ends))
 
 pub returns-in-Opens : goal.returns-in-Opens
 returns-in-Opens c =
-    let put = c in
-    (rw put.in-Opens.is put.put_text-in-Opens.ensures, omega (arith, put.put_text-in-Opens.ensures.ends))
+    (rw c.in-Opens.is c.put_text-in-Opens.ensures, omega (arith, c.put_text-in-Opens.ensures.ends))

@@ -8,10 +8,8 @@ returns-in-Whole c = (rw c.in-Whole.is (put_none _ _), omega arith)
 
 pub returns-in-Partial : goal.returns-in-Partial
 returns-in-Partial c =
-    let put = c in
-    (rw put.in-Partial.is put.put_text.ensures, omega (arith, put.put_text.ensures.ends))
+    (rw c.in-Partial.is c.put_text.ensures, omega (arith, c.put_text.ensures.ends))
 
 pub returns-in-None : goal.returns-in-None
 returns-in-None c =
-    let put = c in
-    (rw put.in-None.is put.put_text-in-None.ensures, omega (arith, put.put_text-in-None.ensures.ends))
+    (rw c.in-None.is c.put_text-in-None.ensures, omega (arith, c.put_text-in-None.ensures.ends))

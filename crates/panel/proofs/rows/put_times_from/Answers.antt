@@ -5,20 +5,16 @@ use Rattle.panel.proofs.rows.put_times_from.Goals as goal
 
 pub returns : goal.returns
 returns c =
-    let byte = c in
-    let end = byte in
-    let until = end in
-    let from = until in
-    let text = from.put_text-from.ensures in
-    let times = put_then text (put_then from.put_moment-gap.ensures (put_then until.put_text-until.ensures end.put_moment-end.ensures)) in
-    rw (← from.wide.ensures.0, ← end.wide-2.ensures.0) (
-      put_then times byte.put_byte.ensures,
+    let text = c.put_text-from.ensures in
+    let times = put_then text (put_then c.put_moment-gap.ensures (put_then c.put_text-until.ensures c.put_moment-end.ensures)) in
+    rw (← c.wide.ensures.0, ← c.wide-2.ensures.0) (
+      put_then times c.put_byte.ensures,
       omega (
         arith,
         text.ends,
-        from.put_moment-gap.ensures.ends,
-        until.put_text-until.ensures.ends,
-        end.put_moment-end.ensures.ends,
-        byte.put_byte.ensures.ends,
+        c.put_moment-gap.ensures.ends,
+        c.put_text-until.ensures.ends,
+        c.put_moment-end.ensures.ends,
+        c.put_byte.ensures.ends,
       ),
     )

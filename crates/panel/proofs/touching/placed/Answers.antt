@@ -5,15 +5,11 @@ use Rattle.panel.proofs.touching.placed.Goals as goal
 
 pub returns-then-found-i : goal.returns-then-found-i
 returns-then-found-i c =
-    let start = c in
-    placed_end _ _ start.requires start.args.i c.if-found-i.true
+    placed_end _ _ c.requires c.args.i c.if-found-i.true
 
 pub grant_at-grant-requires : goal.grant_at-grant-requires
 grant_at-grant-requires c = cell_hit c.requires c.if-found-i.false c.wide.ensures.0
 
 pub returns : goal.returns
 returns c =
-    let found = c in
-    let some = found in
-    let start = some in
-    placed_at _ _ start.requires start.args.i some.if-found-i.false found.wide.ensures.0 found.grant_at-grant.ensures c.precedence_among-precedence.ensures
+    placed_at _ _ c.requires c.args.i c.if-found-i.false c.wide.ensures.0 c.grant_at-grant.ensures c.precedence_among-precedence.ensures

@@ -4,6 +4,5 @@ use Rattle.panel.proofs.touching.sorted_placed.Goals as goal
 
 pub returns : goal.returns
 returns c =
-    let start = c in
-    placed-sorted start.args.pool.now start.args.hits.now _ start.args.found start.args.i
+    placed-sorted c.args.pool.now c.args.hits.now _ c.args.found c.args.i
     c.sort_cells.ensures.0 c.placed.ensures

@@ -17,11 +17,10 @@ loop-k-init c =
 
 pub loop-k-preserved : goal.loop-k-preserved
 loop-k-preserved c =
-    let turn = c in
-    let l = turn.loop-k in
+    let l = c.loop-k in
     let i = l.invariant in
     let k = l.k in
-    let pos = turn.loop-k-test.true in
+    let pos = c.loop-k-test.true in
     let e = c.store_free.ensures in
     let long : pool_length k ≤ length l.pool = omega (arith, i.0, i.1) in (
       omega (arith, i.0),

@@ -14,15 +14,13 @@ bounds-pool-2 c = simp length-set (omega (arith, c.requires.long))
 
 pub shape_of-pool : goal.shape_of-pool
 shape_of-pool c =
-    let start = c in
     let e = c.free_all.ensures in
-    let header = header_stored start.args.pool.now start.args.cells (omega (arith, start.requires.long)) in
-    let whole = fresh-whole start.args.cells c.free_all.new.pool (e.1 ∙ header) e.0 in
-    ap length whole ∙ length-fresh_pool start.args.cells ∙ sym start.requires.long
+    let header = header_stored c.args.pool.now c.args.cells (omega (arith, c.requires.long)) in
+    let whole = fresh-whole c.args.cells c.free_all.new.pool (e.1 ∙ header) e.0 in
+    ap length whole ∙ length-fresh_pool c.args.cells ∙ sym c.requires.long
 
 pub returns : goal.returns
 returns c =
-    let start = c in
     let e = c.free_all.ensures in
-    let header = header_stored start.args.pool.now start.args.cells (omega (arith, start.requires.long)) in
-    fresh-whole start.args.cells _ (e.1 ∙ header) e.0
+    let header = header_stored c.args.pool.now c.args.cells (omega (arith, c.requires.long)) in
+    fresh-whole c.args.cells _ (e.1 ∙ header) e.0

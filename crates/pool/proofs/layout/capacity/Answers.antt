@@ -11,10 +11,8 @@ bounds-pool-0 c = omega (arith, length_header _ c.length_capacity-cells.ensures 
 
 pub returns-then-wide-cells : goal.returns-then-wide-cells
 returns-then-wide-cells c =
-    let some = c in
-    pool_other _ some.length_capacity-cells.ensures some.if-cells-eq0.false c.wide.ensures.0 c.if-wide-cells.true
+    pool_other _ c.length_capacity-cells.ensures c.if-cells-eq0.false c.wide.ensures.0 c.if-wide-cells.true
 
 pub returns : goal.returns
 returns c =
-    let some = c in
-    pool_right _ some.length_capacity-cells.ensures some.if-cells-eq0.false c.wide.ensures.0 c.if-wide-cells.false
+    pool_right _ c.length_capacity-cells.ensures c.if-cells-eq0.false c.wide.ensures.0 c.if-wide-cells.false

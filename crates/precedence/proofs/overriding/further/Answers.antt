@@ -7,16 +7,14 @@ use Rattle.precedence.proofs.overriding.further.Goals as goal
 pub returns-then-best-past : goal.returns-then-best-past
 unfolding further
 returns-then-best-past c =
-    let first = c in
     let past = c.wide-past.ensures.0 in
-    rw (sym first.overrides.ensures ∙ first.if-overrides.true) (omega (arith, past, c.if-best-past.true))
+    rw (sym c.overrides.ensures ∙ c.if-overrides.true) (omega (arith, past, c.if-best-past.true))
 
 pub returns-then-overrides : goal.returns-then-overrides
 unfolding further
 returns-then-overrides c =
-    let first = c in
     let past = c.wide-past.ensures.0 in
-    rw (sym first.overrides.ensures ∙ first.if-overrides.true) (omega (arith, past, c.if-best-past.false))
+    rw (sym c.overrides.ensures ∙ c.if-overrides.true) (omega (arith, past, c.if-best-past.false))
 
 pub returns : goal.returns
 unfolding further

@@ -14,23 +14,17 @@ grant_at-requires c = cell_hit c.requires c.loop-i-test.true c.wide.ensures.0
 
 pub returns-then-overrides_some : goal.returns-then-overrides_some
 returns-then-overrides_some c =
-    let found = c in
-    let turn = found in
-    any_found _ _ turn.requires turn.loop-i-test.true found.wide.ensures.0 found.grant_at.ensures
-    (overrides_some turn.args.g) turn.loop-i.invariant.1 (sym c.overrides_some.ensures ∙ c.if-overrides_some.true)
+    any_found _ _ c.requires c.loop-i-test.true c.wide.ensures.0 c.grant_at.ensures
+    (overrides_some c.args.g) c.loop-i.invariant.1 (sym c.overrides_some.ensures ∙ c.if-overrides_some.true)
 
 pub loop-i-preserved : goal.loop-i-preserved
-loop-i-preserved c =
-    let found = c in
-    let turn = found in
-    let start = turn in (
-      omega (arith, turn.loop-i-test.true),
-      any_passed _ _ start.requires turn.loop-i-test.true found.wide.ensures.0 found.grant_at.ensures (overrides_some start.args.g)
-          turn.loop-i.invariant.1 (sym c.overrides_some.ensures ∙ c.if-overrides_some.false),
-    )
+loop-i-preserved c = (
+  omega (arith, c.loop-i-test.true),
+  any_passed _ _ c.requires c.loop-i-test.true c.wide.ensures.0 c.grant_at.ensures (overrides_some c.args.g)
+      c.loop-i.invariant.1 (sym c.overrides_some.ensures ∙ c.if-overrides_some.false),
+)
 
 pub returns : goal.returns
 returns c =
-    let start = c in
     let loop = c.loop-i in
-    any_none _ _ start.requires (overrides_some start.args.g) loop.i loop.invariant.0 c.loop-i-test.false loop.invariant.1
+    any_none _ _ c.requires (overrides_some c.args.g) loop.i loop.invariant.0 c.loop-i-test.false loop.invariant.1

@@ -8,22 +8,19 @@ use Rattle.precedence.proofs.overriding.overrides.Goals as goal
 pub returns-then-wide-staff : goal.returns-then-wide-staff
 unfolding overrides
 returns-then-wide-staff c =
-    let low = c in
-    let first = low in
-    let a = first.args in
+    let a = c.args in
     rw (
-      sym first.outranks.ensures ∙ first.if-outranks.true,
-      le-leb a.h.bounds.staff_from a.staff (omega (arith, low.wide.ensures.0, low.if-wide-staff.true)),
+      sym c.outranks.ensures ∙ c.if-outranks.true,
+      le-leb a.h.bounds.staff_from a.staff (omega (arith, c.wide.ensures.0, c.if-wide-staff.true)),
       c.wide-then-wide-staff.ensures.0,
     )
 
 pub returns-then-outranks : goal.returns-then-outranks
 unfolding overrides
 returns-then-outranks c =
-    let first = c in
-    let a = first.args in
+    let a = c.args in
     rw (
-      sym first.outranks.ensures ∙ first.if-outranks.true,
+      sym c.outranks.ensures ∙ c.if-outranks.true,
       lt-leb a.h.bounds.staff_from a.staff (omega (arith, c.wide.ensures.0, c.if-wide-staff.false)),
     )
 

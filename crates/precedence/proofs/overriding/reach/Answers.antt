@@ -13,17 +13,13 @@ grant_at-requires c = cell_hit c.requires c.loop-i-test.true c.wide.ensures.0
 
 pub loop-i-preserved : goal.loop-i-preserved
 loop-i-preserved c =
-    let found = c in
-    let turn = found in
-    let start = turn in
-    let l = turn.loop-i in (
-      omega (arith, turn.loop-i-test.true),
-      reach_passed _ _ start.requires turn.loop-i-test.true found.wide.ensures.0 found.grant_at.ensures start.args.g
-          start.args.staff l.best l.invariant.1 c.further-best.ensures,
+    let l = c.loop-i in (
+      omega (arith, c.loop-i-test.true),
+      reach_passed _ _ c.requires c.loop-i-test.true c.wide.ensures.0 c.grant_at.ensures c.args.g
+          c.args.staff l.best l.invariant.1 c.further-best.ensures,
     )
 
 pub returns : goal.returns
 returns c =
-    let start = c in
     let loop = c.loop-i in
-    reach-end _ _ start.requires start.args.g start.args.staff loop.best loop.i loop.invariant.0 c.loop-i-test.false loop.invariant.1
+    reach-end _ _ c.requires c.args.g c.args.staff loop.best loop.i loop.invariant.0 c.loop-i-test.false loop.invariant.1

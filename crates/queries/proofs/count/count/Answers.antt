@@ -11,33 +11,20 @@ returns-then-cells-eq0 c = count_bad c.args.pool.now c.capacity-cells.ensures c.
 
 pub find_hits-requires : goal.find_hits-requires
 find_hits-requires c =
-    let tested = c in
-    let t = pool_taken _ tested.capacity-cells.ensures tested.if-cells-eq0.false in
+    let t = pool_taken _ c.capacity-cells.ensures c.if-cells-eq0.false in
     record { sized = t.sized; one_sided = subst OneSided (sym c.root_region-everything.ensures) all_one_sided; room = refl }
 
 pub returns-in_default : goal.returns-in_default
 returns-in_default c =
-    let searched = c in
-    let ranged = searched in
-    let tested = ranged in
-    let start = tested in
-    count-broken start.args.pool.now tested.capacity-cells.ensures tested.if-cells-eq0.false
-    ranged.root_region-everything.ensures _ searched.find_hits.ensures c.in_default.is
+    count-broken c.args.pool.now c.capacity-cells.ensures c.if-cells-eq0.false
+    c.root_region-everything.ensures _ c.find_hits.ensures c.in_default.is
 
 pub overflow_sub-result : goal.overflow_sub-result
 overflow_sub-result c =
-    let searched = c in
-    let ranged = searched in
-    let tested = ranged in
-    let start = tested in
-    count-few start.args.pool.now tested.capacity-cells.ensures tested.if-cells-eq0.false
-    ranged.root_region-everything.ensures _ searched.find_hits.ensures c.in-Found.is
+    count-few c.args.pool.now c.capacity-cells.ensures c.if-cells-eq0.false
+    c.root_region-everything.ensures _ c.find_hits.ensures c.in-Found.is
 
 pub returns : goal.returns
 returns c =
-    let searched = c in
-    let ranged = searched in
-    let tested = ranged in
-    let start = tested in
-    count_done start.args.pool.now tested.capacity-cells.ensures tested.if-cells-eq0.false
-    ranged.root_region-everything.ensures _ searched.find_hits.ensures c.in-Found.is
+    count_done c.args.pool.now c.capacity-cells.ensures c.if-cells-eq0.false
+    c.root_region-everything.ensures _ c.find_hits.ensures c.in-Found.is

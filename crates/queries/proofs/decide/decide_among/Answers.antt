@@ -14,26 +14,22 @@ grant_at-deciding-requires c = cell_hit c.requires (omega arith) c.wide.ensures.
 
 pub grant_at-other-requires : goal.grant_at-other-requires
 grant_at-other-requires c =
-    let turn = c in
-    cell_hit turn.requires turn.loop-i-test.true c.wide-in-loop-i.ensures.0
+    cell_hit c.requires c.loop-i-test.true c.wide-in-loop-i.ensures.0
 
 pub loop-i-preserved : goal.loop-i-preserved
 loop-i-preserved c =
-    let found = c in
-    let turn = found in
-    let loop = turn.loop-i in
-    let cells = turn.requires in
+    let loop = c.loop-i in
+    let cells = c.requires in
     let o = c.outranks.ensures in
-    let cell = found.wide-in-loop-i.ensures.0 in
-    let over = decides_over _ _ cells turn.loop-i-test.true cell found.grant_at-other.ensures loop.deciding loop.invariant.1 in
-    let under = decides_under _ _ cells turn.loop-i-test.true cell found.grant_at-other.ensures loop.deciding loop.invariant.1 in
+    let cell = c.wide-in-loop-i.ensures.0 in
+    let over = decides_over _ _ cells c.loop-i-test.true cell c.grant_at-other.ensures loop.deciding loop.invariant.1 in
+    let under = decides_under _ _ cells c.loop-i-test.true cell c.grant_at-other.ensures loop.deciding loop.invariant.1 in
     (omega arith, elim c.if-outranks.branch [ then-outranks w ↦ rw w.deciding-is (over (sym o ∙ w.if-outranks.true)) | else-outranks w ↦ rw w.deciding-is (under (sym o ∙ w.if-outranks.false)) ])
 
 pub returns : goal.returns
 returns c =
     let loop = c.loop-i in
-    let first = c in
-    let cells = first.requires in
-    let some = first.if-found-eq0.false in
+    let cells = c.requires in
+    let some = c.if-found-eq0.false in
     c.decision_of.ensures
-    ∙ decides-end _ _ cells loop.i (omega arith) some first.wide.ensures.0 first.grant_at-deciding.ensures loop.deciding loop.invariant.1
+    ∙ decides-end _ _ cells loop.i (omega arith) some c.wide.ensures.0 c.grant_at-deciding.ensures loop.deciding loop.invariant.1

@@ -14,12 +14,11 @@ field-requires c = cell_hit c.requires (omega arith) c.wide.ensures.0
 
 pub loop-i-preserved : goal.loop-i-preserved
 loop-i-preserved c =
-    let at = c in
     let l = c.loop-i in
     let read = c.wide.ensures.0 in (
       omega arith,
       simp length-set l.invariant.1,
-      numbers_more at.args.pool.now at.args.hits.now l.list l.i (omega arith) (omega (arith, at.requires.room, at.requires.few))
+      numbers_more c.args.pool.now c.args.hits.now l.list l.i (omega arith) (omega (arith, c.requires.room, c.requires.few))
           read c.field.ensures l.invariant.2,
     )
 
@@ -28,6 +27,5 @@ shape_of-list c = c.loop-i.invariant.1
 
 pub returns : goal.returns
 returns c =
-    let at = c in
     let l = c.loop-i in
-    numbers_all at.args.pool.now at.args.hits.now l.list l.i _ l.invariant.1 (omega arith) l.invariant.2
+    numbers_all c.args.pool.now c.args.hits.now l.list l.i _ l.invariant.1 (omega arith) l.invariant.2

@@ -9,57 +9,42 @@ use Rattle.queries.proofs.list.list.Goals as goal
 
 pub returns-then-cells-eq0 : goal.returns-then-cells-eq0
 returns-then-cells-eq0 c =
-    let start = c in
-    list_bad start.args.pool.now start.args.bounds start.args.choice start.args.list.now c.capacity-cells.ensures c.if-cells-eq0.true
+    list_bad c.args.pool.now c.args.bounds c.args.choice c.args.list.now c.capacity-cells.ensures c.if-cells-eq0.true
 
 pub returns-then-is_reversed : goal.returns-then-is_reversed
 returns-then-is_reversed c =
-    let tested = c in
-    let a = tested.args in
-    list-reversed a.pool.now a.bounds a.choice a.list.now tested.capacity-cells.ensures tested.if-cells-eq0.false
-    tested.is_reversed.ensures c.if-is_reversed.true
+    let a = c.args in
+    list-reversed a.pool.now a.bounds a.choice a.list.now c.capacity-cells.ensures c.if-cells-eq0.false
+    c.is_reversed.ensures c.if-is_reversed.true
 
 pub find_taken-requires : goal.find_taken-requires
 find_taken-requires c =
-    let forward = c in
-    let tested = forward in
-    let t = pool_taken _ tested.capacity-cells.ensures tested.if-cells-eq0.false in
-    record { sized = t.sized; some = forward_quarters _ (sym tested.is_reversed.ensures ∙ forward.if-is_reversed.false); room = refl }
+    let t = pool_taken _ c.capacity-cells.ensures c.if-cells-eq0.false in
+    record { sized = t.sized; some = forward_quarters _ (sym c.is_reversed.ensures ∙ c.if-is_reversed.false); room = refl }
 
 pub returns-in_default : goal.returns-in_default
 returns-in_default c =
-    let searched = c in
-    let forward = searched in
-    let tested = forward in
-    let a = tested.args in
-    list-broken a.pool.now a.bounds a.choice a.list.now tested.capacity-cells.ensures tested.if-cells-eq0.false
-    tested.is_reversed.ensures forward.if-is_reversed.false _ searched.find_taken.ensures c.in_default.is
+    let a = c.args in
+    list-broken a.pool.now a.bounds a.choice a.list.now c.capacity-cells.ensures c.if-cells-eq0.false
+    c.is_reversed.ensures c.if-is_reversed.false _ c.find_taken.ensures c.in_default.is
 
 pub returns-then-list-found : goal.returns-then-list-found
 returns-then-list-found c =
-    let searched = c in
-    let forward = searched in
-    let tested = forward in
-    let a = tested.args in
-    list_short a.pool.now a.bounds a.choice a.list.now tested.capacity-cells.ensures tested.if-cells-eq0.false
-    tested.is_reversed.ensures forward.if-is_reversed.false _ searched.find_taken.ensures c.in-Found.is c.if-list-found.true
+    let a = c.args in
+    list_short a.pool.now a.bounds a.choice a.list.now c.capacity-cells.ensures c.if-cells-eq0.false
+    c.is_reversed.ensures c.if-is_reversed.false _ c.find_taken.ensures c.in-Found.is c.if-list-found.true
 
 pub slice_bounds-write_numbers-end-2 : goal.slice_bounds-write_numbers-end-2
 slice_bounds-write_numbers-end-2 c = sym (length-take-le _ _ c.if-list-found.false)
 
 pub write_numbers-requires : goal.write_numbers-requires
 write_numbers-requires c =
-    let found = c in
-    let cells = found-cells _ _ _ _ found.find_taken.ensures c.in-Found.is in
+    let cells = found-cells _ _ _ _ c.find_taken.ensures c.in-Found.is in
     cells-part cells _ c.if-list-found.false
 
 pub returns : goal.returns
 returns c =
-    let room = c in
-    let searched = room in
-    let forward = searched in
-    let tested = forward in
-    let a = tested.args in
-    list_done a.pool.now a.bounds a.choice a.list.now tested.capacity-cells.ensures tested.if-cells-eq0.false
-    tested.is_reversed.ensures forward.if-is_reversed.false _ searched.find_taken.ensures c.in-Found.is
-    room.if-list-found.false c.write_numbers.ensures
+    let a = c.args in
+    list_done a.pool.now a.bounds a.choice a.list.now c.capacity-cells.ensures c.if-cells-eq0.false
+    c.is_reversed.ensures c.if-is_reversed.false _ c.find_taken.ensures c.in-Found.is
+    c.if-list-found.false c.write_numbers.ensures

@@ -7,5 +7,4 @@ use Rattle.queries.proofs.list.write_numbers.Goals as goal
 
 pub returns : goal.returns
 returns c =
-    let copied = c in
-    c.sort_numbers.ensures ∙ ap (λ (xs : List ℕ). sort_by (λ (n : ℕ). n) xs) copied.copy_numbers.ensures
+    c.sort_numbers.ensures ∙ ap (λ (xs : List ℕ). sort_by (λ (n : ℕ). n) xs) c.copy_numbers.ensures

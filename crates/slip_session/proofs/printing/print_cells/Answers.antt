@@ -31,5 +31,8 @@ returns c =
     let b = c.put_byte-gap.ensures in
     let n = c.put_number-second.ensures in
     let e = c.put_byte in
+    let live = numeral-few 19 c.args.live (omega (arith, c.ranges)) in
+    let free = numeral-few 19 c.args.free (omega (arith, c.ranges)) in
     let put = put_line (put_then (put_then (put_then t m) (put_then b n)) e.ensures)
-    (omega (arith, numeral-few 19 c.args.live (omega (arith, c.ranges)), numeral-few 19 c.args.free (omega (arith, c.ranges)), t.ends, m.ends, b.ends, n.ends, e.ensures.ends, e.auto.out)) in record { out_after = put.0; counts = put.1 }
+    (omega (arith, live, free, t.ends, m.ends, b.ends, n.ends, e.ensures.ends, e.auto.out)) in
+    record { out_after = put.0; counts = put.1 }

@@ -27,5 +27,6 @@ returns c =
     let s = c.shown.ensures in
     let i = c.put_items-end.ensures in
     let e = c.put_byte in
-    let put = put_line (put_then (put_then (put_then t n) i.0) e.ensures) (omega (arith, numeral-few 19 c.args.written (omega (arith, c.ranges)), t.ends, n.ends, s.2, i.1, e.ensures.ends, e.auto.out)) in
+    let few = numeral-few 19 c.args.written (omega (arith, c.ranges)) in
+    let put = put_line (put_then (put_then (put_then t n) i.0) e.ensures) (omega (arith, few, t.ends, n.ends, s.2, i.1, e.ensures.ends, e.auto.out)) in
     rw (← s.0) (record { out_after = put.0; counts = put.1 })

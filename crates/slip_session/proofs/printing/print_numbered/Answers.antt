@@ -16,4 +16,6 @@ returns c =
     let t = c.put_text-at.ensures in
     let n = c.put_number-end.ensures in
     let e = c.put_byte in
-    let put = put_line (put_then (put_then t n) e.ensures) (omega (arith, numeral-few 19 c.args.n (omega (arith, c.ranges)), t.ends, n.ends, e.ensures.ends, e.auto.out, c.requires)) in record { out_after = put.0; counts = put.1 }
+    let few = numeral-few 19 c.args.n (omega (arith, c.ranges)) in
+    let put = put_line (put_then (put_then t n) e.ensures) (omega (arith, few, t.ends, n.ends, e.ensures.ends, e.auto.out, c.requires)) in
+    record { out_after = put.0; counts = put.1 }

@@ -14,28 +14,20 @@ same-request g e = ap (λ (k : ℕ). request g.number g.rank k g.bounds) e
 
 pub insert-requires : goal.insert-requires
 insert-requires c =
-    let planned = c in
-    let kinded = planned in
-    let a = kinded.args in
-    let same = same-request a.g kinded.kind_number.ensures.0 in
+    let a = c.args in
+    let same = same-request a.g c.kind_number.ensures.0 in
     plan_inserts a.pool.now (request_of a.g) _ _ _ _ _
     (planned_as a.pool.now same refl c.in-At.ensures)
 
 pub returns-in-Refused : goal.returns-in-Refused
 returns-in-Refused c =
-    let planned = c in
-    let kinded = planned in
-    let a = kinded.args in
-    let same = same-request a.g kinded.kind_number.ensures.0 in
+    let a = c.args in
+    let same = same-request a.g c.kind_number.ensures.0 in
     added-refused a.pool.now (request_of a.g) _ (planned_as a.pool.now same refl c.in-Refused.ensures)
 
 pub returns-in-At : goal.returns-in-At
 returns-in-At c =
-    let stored = c in
-    let told = stored in
-    let planned = told in
-    let kinded = planned in
-    let a = kinded.args in
-    let same = same-request a.g kinded.kind_number.ensures.0 in
+    let a = c.args in
+    let same = same-request a.g c.kind_number.ensures.0 in
     added_done a.pool.now (request_of a.g) _ _ _ _ (planned_as a.pool.now same refl c.in-At.ensures)
-    (stored.insert.ensures ∙ ap (inserted a.pool.now _ _) (sym (requested-request_of a.g)))
+    (c.insert.ensures ∙ ap (inserted a.pool.now _ _) (sym (requested-request_of a.g)))

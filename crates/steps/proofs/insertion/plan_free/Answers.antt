@@ -10,41 +10,30 @@ use Rattle.steps.proofs.insertion.plan_free.Goals as goal
 
 pub returns-then-cells-free : goal.returns-then-cells-free
 returns-then-cells-free c =
-    let start = c in
-    let a = start.args in
+    let a = c.args in
     let r = request a.number a.rank a.kind a.bounds in
-    free-above a.pool.now r start.requires.0 start.requires.1 c.wide-free.ensures.0 c.if-cells-free.true
+    free-above a.pool.now r c.requires.0 c.requires.1 c.wide-free.ensures.0 c.if-cells-free.true
 
 pub returns-then-free-eq0 : goal.returns-then-free-eq0
 returns-then-free-eq0 c =
-    let read = c in
-    let start = read in
-    let a = start.args in
+    let a = c.args in
     let r = request a.number a.rank a.kind a.bounds in
-    free-none a.pool.now r start.requires.0 start.requires.1 read.wide-free.ensures.0 c.if-cells-free.false c.if-free-eq0.true
+    free-none a.pool.now r c.requires.0 c.requires.1 c.wide-free.ensures.0 c.if-cells-free.false c.if-free-eq0.true
 
 pub returns-then-cells-wide : goal.returns-then-cells-wide
 returns-then-cells-wide c =
-    let two = c in
-    let one = two in
-    let read = one in
-    let start = read in
-    let a = start.args in
+    let a = c.args in
     let r = request a.number a.rank a.kind a.bounds in
-    let head = read.wide-free.ensures.0 in
+    let head = c.wide-free.ensures.0 in
     let after = c.field-next.ensures ∙ ap (λ (k : ℕ). field_of a.pool.now k Left) head in
-    free-next-above a.pool.now r start.requires.0 start.requires.1 head one.if-cells-free.false two.if-free-eq0.false after
+    free-next-above a.pool.now r c.requires.0 c.requires.1 head c.if-cells-free.false c.if-free-eq0.false after
     (omega (arith, c.wide.ensures.0, c.if-cells-wide.true))
 
 pub returns : goal.returns
 returns c =
-    let two = c in
-    let one = two in
-    let read = one in
-    let start = read in
-    let a = start.args in
+    let a = c.args in
     let r = request a.number a.rank a.kind a.bounds in
-    let head = read.wide-free.ensures.0 in
+    let head = c.wide-free.ensures.0 in
     let after = c.field-next.ensures ∙ ap (λ (k : ℕ). field_of a.pool.now k Left) head in
-    free_planned a.pool.now r start.requires.0 start.requires.1 head one.if-cells-free.false two.if-free-eq0.false after
+    free_planned a.pool.now r c.requires.0 c.requires.1 head c.if-cells-free.false c.if-free-eq0.false after
     (omega (arith, c.wide.ensures.0, c.if-cells-wide.false))

@@ -25,9 +25,8 @@ returns-then-n-lt10000 c =
 
 pub returns : goal.returns
 returns c =
-    let low = c.if-n-lt10000.false in
-    let start = c in (
+    let low = c.if-n-lt10000.false in (
       digit_more _ (omega (arith, low)) (digit_more _ (omega (arith, low))
-          (digit_more _ (omega (arith, low)) (digit_more _ (omega (arith, low)) (one_digit _ (omega (arith, start.ranges)))))),
+          (digit_more _ (omega (arith, low)) (digit_more _ (omega (arith, low)) (one_digit _ (omega (arith, c.ranges)))))),
       omega arith,
     )

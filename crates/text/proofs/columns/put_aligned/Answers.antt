@@ -9,12 +9,11 @@ use Rattle.text.proofs.columns.put_aligned.Goals as goal
 
 pub put_number-requires : goal.put_number-requires
 put_number-requires c =
-    let blanks = c in
-    let digits = blanks.digits_of in
-    let put = blanks.put_blanks-next in
+    let digits = c.digits_of in
+    let put = c.put_blanks-next in
     omega (
       arith,
-      blanks.requires,
+      c.requires,
       digits.ensures.0,
       digits.ensures.1,
       put.ensures.ends,
@@ -24,8 +23,6 @@ put_number-requires c =
 
 pub returns : goal.returns
 returns c =
-    let number = c in
-    let blanks = number in
-    let digits = blanks.digits_of in
-    put_aligned-whole blanks.args.n digits.result digits.ensures.0 digits.ensures.1
-    blanks.put_blanks-next.ensures number.put_number.ensures
+    let digits = c.digits_of in
+    put_aligned-whole c.args.n digits.result digits.ensures.0 digits.ensures.1
+    c.put_blanks-next.ensures c.put_number.ensures

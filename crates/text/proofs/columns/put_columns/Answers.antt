@@ -16,14 +16,13 @@ loop-i-init c = (search rules, refl, c.requires, omega arith, put_none _ _)
 pub loop-i-preserved : goal.loop-i-preserved
 loop-i-preserved c =
     let p = c.put_aligned-next in
-    let turn = c in
-    let l = turn.loop-i in
-    let values = turn.args.values.now in (
+    let l = c.loop-i in
+    let values = c.args.values.now in (
       search rules,
       p.auto.out ∙ l.invariant.1,
       l.invariant.2,
       omega (arith, p.ensures.1, l.invariant.3),
-      rw (columns_more values l.i turn.loop-i-test.true) (put_then l.invariant.4 p.ensures.0),
+      rw (columns_more values l.i c.loop-i-test.true) (put_then l.invariant.4 p.ensures.0),
     )
 
 pub returns : goal.returns
