@@ -1,10 +1,9 @@
 -- The way down, the removal walk and the stores of a removal, step by step, as the code makes them.
 --   descent_end, descent_blank, descent_above, descent_full, descent_parent, descent_next    of `descend_from`
 --   follow-terminal, follow-deep, follow-above, follow_full, follow_parent, follow-next      of `follow`
---   next_right, next-left                                               of `next_link`
---   replace_steps, raise_steps, remove-terminal, remove_other           of `replaced`, `raised` and `removed`
+--   replace_steps, raise_steps, unlink-terminal, unlink_other           of `replaced`, `raised` and `unlinked`
 --   reparent_none, reparent_above, reparent_stored                      of `reparented`
---   length-replaced, length-reparented, length-raised, length-freed     stores keep the length
+--   length-reparented, length-raised                                    stores keep the length
 -- Assumes nothing.
 use Prim.Native.Nat.{ℕ, zero, suc, ◌+◌, ◌-◌, ◌<◌, ◌≤◌}
 use mathlib.Core.Path.{◌≡◌, refl, ◌∙◌}
@@ -16,14 +15,12 @@ use lib.Dec.{leb, ltb, eqb}
 use lib.ListN.{length, get_or, set, length-set}
 use borrow.Author.Tests.{le-leb, lt-leb, lt-ltb, le-ltb, eq-eqb, ne_eqb}
 use Rattle.geometry.specs.declared.Side.{Side}
-use Rattle.geometry.specs.declared.Side.TheVariants.{Left, Right}
 use Rattle.geometry.specs.Axis.{axis_of}
 use Rattle.geometry.specs.Levels.{levels}
 use Rattle.geometry.specs.Region.{Region, side_of, half}
 use Rattle.pool.specs.declared.Field.TheVariants as field
 use Rattle.pool.specs.Layout.{place, field_of}
 use Rattle.pool.specs.Capacity.{capacity_of}
-use Rattle.pool.proofs.CellLaws.{length-with_cell}
 use Rattle.adt.specs.Node.{link_place, parent_at, is_parent}
 use Rattle.adt.specs.Insert.{InsertionWalk, blank_at, descend_from}
 use Rattle.adt.specs.Insert as insert
@@ -112,14 +109,6 @@ module _ (w : List ℕ) (c n k link met : ℕ) (at next : ℕ) (ea : at ≡ next
         pub follow-next : met < c → parent_at w next ≡ k → follow w c (n - 1) next at (met + 1) ≡ follow w c n k link met
         follow-next h named = rw (le-leb next c le, lt-ltb met c h, eq-eqb (parent_at w next) k named) at follow_cases
 
--- left where that is not blank, else right
-module _ (w : List ℕ) (k left : ℕ) (el : left ≡ link_place k Left) where
-  pub next_right : {right : ℕ} → get_or w left 0 ≡ 0 → right ≡ link_place k Right → right ≡ next_link w k
-  next_right z er = rw (er, ← el, eq-eqb (get_or w left 0) 0 z)
-
-  pub next-left : ¬ (get_or w left 0 ≡ 0) → left ≡ next_link w k
-  next-left n = rw (← el, ne_eqb (get_or w left 0) 0 n)
-
 -- the stores of a removal, one after the other
 pub replace_steps : (w : List ℕ) (k link leaf cut : ℕ) {l r : ℕ} {v u : List ℕ} → l ≡ field_of (set w cut 0) k field.Left
     → r ≡ field_of (set w cut 0) k field.Right
@@ -127,14 +116,14 @@ pub replace_steps : (w : List ℕ) (k link leaf cut : ℕ) {l r : ℕ} {v u : Li
 unfolding replaced field_of
 replace_steps w k link leaf cut el er ev eu = rw (eu, ev, el, er)
 
-pub remove-terminal : (w : List ℕ) (k link leaf cut : ℕ) {v : List ℕ} → leaf ≡ k → v ≡ freed (set w link 0) k → v ≡ removed w k link leaf cut
-unfolding removed unlinked
-remove-terminal w k link leaf cut e f = f ∙ rw (eq-eqb leaf k e)
+pub unlink-terminal : (w : List ℕ) (k link leaf cut : ℕ) {v : List ℕ} → leaf ≡ k → v ≡ set w link 0 → v ≡ unlinked w k link leaf cut
+unfolding unlinked
+unlink-terminal w k link leaf cut e f = f ∙ rw (eq-eqb leaf k e)
 
-pub remove_other : (w : List ℕ) (k link leaf cut : ℕ) {u x v : List ℕ} → ¬ (leaf ≡ k) → u ≡ replaced w k link leaf cut → x ≡ raised u k leaf → v ≡ freed x k
-    → v ≡ removed w k link leaf cut
-unfolding removed unlinked
-remove_other w k link leaf cut n e r f = f ∙ rw (r, e, ne_eqb leaf k n)
+pub unlink_other : (w : List ℕ) (k link leaf cut : ℕ) {u v : List ℕ} → ¬ (leaf ≡ k) → u ≡ replaced w k link leaf cut → v ≡ raised u k leaf
+    → v ≡ unlinked w k link leaf cut
+unfolding unlinked
+unlink_other w k link leaf cut n e r = r ∙ rw (e, ne_eqb leaf k n)
 
 -- a blank link, one above C, and one to a cell
 module _ (w : List ℕ) {c : ℕ} (cap : capacity_of w ≡ c) {j child : ℕ} (e : j ≡ child) (p : ℕ) where
@@ -155,10 +144,6 @@ pub raise_steps : (w : List ℕ) (k leaf : ℕ) {l r p : ℕ} {v u x : List ℕ}
 unfolding raised field_of
 raise_steps w k leaf el er ep ev eu ex = ex ∙ rw (eu, ev, ep, el, er)
 
-pub length-replaced : (w : List ℕ) (k link leaf cut : ℕ) → length (replaced w k link leaf cut) ≡ length w
-unfolding replaced
-length-replaced w k link leaf cut = simp length-set
-
 pub length-reparented : (w : List ℕ) (j p : ℕ) → length (reparented w j p) ≡ length w
 unfolding reparented
 length-reparented w j p = go (eqb j 0 || ltb (capacity_of w) j)
@@ -170,7 +155,3 @@ length-reparented w j p = go (eqb j 0 || ltb (capacity_of w) j)
 pub length-raised : (w : List ℕ) (k leaf : ℕ) → length (raised w k leaf) ≡ length w
 unfolding raised
 length-raised w k leaf = simp (length-reparented, length-set)
-
-pub length-freed : (w : List ℕ) (k : ℕ) → length (freed w k) ≡ length w
-unfolding freed
-length-freed w k = simp (length-set, length-with_cell)

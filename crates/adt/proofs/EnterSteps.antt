@@ -4,7 +4,6 @@
 --   stands_as, encodes_as                                              what the memory stands for, once the answer is known
 --   ChildAt, child_meets, child_half, child_root                       the link and the region that `enter` goes on with: at the root the root's
 --   child_deep, child_apart, child_past, child_other, child_visited    what the memory stands for after each test of `enter`
---   entered-cells                                                      `enter` goes by the number of cells that the memory holds
 --   subtree                                                            the state of the search once the subtree of a cell on a side was entered
 --   subtree_blank, subtree_entered                                     what the memory stands for then: nothing hangs there, or `enter` was called
 --   visit_cut, visit_left_cut, visit_whole                             and after each step of `visit`
@@ -12,6 +11,8 @@
 use Prim.Native.Nat.{ℕ, zero, suc, ◌-◌, ◌<◌, ◌≤◌}
 use mathlib.Core.Path.{◌≡◌, refl, sym, ap, subst, ◌∙◌}
 use mathlib.Core.Bool.{Bool, true, false, cond, ◌&&◌}
+use Rattle.std.proofs.Common.{Result, Ok, Err}
+use Rattle.std.specs.Prelude.{⊤}
 use mathlib.Core.List.{List}
 use native.Mathlib.Numerals.{sub-one}
 use native.Mathlib.Omega.{arith}
@@ -27,12 +28,14 @@ use Rattle.geometry.specs.Region.{Region, Shape, low, high, half, half_of, meets
 use Rattle.geometry.proofs.RegionLaws.{half-shape}
 use Rattle.geometry.proofs.HalfLaws.{set_half_of}
 use Rattle.pool.specs.Layout.{root_place}
+use Rattle.adt.specs.declared.Broken.{Broken}
+use Rattle.adt.specs.declared.search.Counters.{Counters}
 use Rattle.adt.specs.Node.{link_place, parent_at, is_parent}
 use Rattle.adt.specs.Search.{Spot, Search, broken, going, visit_by, enter}
-use Rattle.adt.specs.SearchMemory.{cells_in, search_in, Counted, Encodes, Entering, link_entered, region_entered, tested, visited, entered}
+use Rattle.adt.specs.SearchMemory.{so_far, search_in, Counted, Encodes, Entering, link_entered, region_entered, tested, visited, entered}
 
-pub stands_as : {c : ℕ} {r b : Bool} {h t : List ℕ} {s : Search} → Encodes c r h t s → r ≡ b → search_in b h t ≡ s
-stands_as {h = h} {t = t} d e = ap (λ (x : Bool). search_in x h t) (sym e) ∙ d.state
+pub stands_as : {c : ℕ} {r b : Result ⊤ Broken} {h : List ℕ} {t : Counters} {s : Search} → Encodes c r h t s → r ≡ b → search_in b h t ≡ s
+stands_as {h = h} {t = t} d e = ap (λ (x : Result ⊤ Broken). search_in x h t) (sym e) ∙ d.state
 
 -- the place of the link that is gone through, and the region of the cell that it leads to, which meets the range
 pub record ChildAt (q : Region) (n p : ℕ) (s : Side) (g r : Region) (link : ℕ) : Type 0 where
@@ -68,7 +71,7 @@ module _ (q : Region) (n p : ℕ) (s : Side) (g : Region) where
       }
 
 -- the memory under another name, once the answer is known
-pub encodes_as : {c : ℕ} {r b : Bool} {h h' t t' : List ℕ} {s : Search} → Encodes c r h t s → r ≡ b → h' ≡ h → t' ≡ t → Encodes c b h' t' s
+pub encodes_as : {c : ℕ} {r b : Result ⊤ Broken} {h h' : List ℕ} {t t' : Counters} {s : Search} → Encodes c r h t s → r ≡ b → h' ≡ h → t' ≡ t → Encodes c b h' t' s
 encodes_as d e i j = rw (i, j, ← e) d
 
 module _ (w : List ℕ) (c : ℕ) (q : Region) (passes : Grant → Bool) where
@@ -124,18 +127,18 @@ module _ (w : List ℕ) (c : ℕ) (q : Region) (passes : Grant → Bool) where
   enter-broken (suc n) from link g = refl
 
   -- the link of the cell p on a side, which leads to the cell k; p has the region g
-  module _ {n p k : ℕ} {side : Side} {g : Region} {hits counters : List ℕ} (e : Entering w c q hits counters n p side k g) where
+  module _ {n p k : ℕ} {side : Side} {g : Region} {hits : List ℕ} {counters : Counters} (e : Entering w c q hits counters n p side k g) where
     abbrev after : Search
     after = entered w c q passes hits counters n p side g
 
     not-blank : ¬ (k ≡ 0)
     not-blank z = omega (arith, e.some)
 
-    pub child_deep : n ≡ 0 → Encodes c false hits counters after
+    pub child_deep : n ≡ 0 → Encodes c (Err (record {})) hits counters after
     child_deep z = record { counted = e.ready.counted; state = enter-deep n p _ k _ e.leads _ _ _ not-blank z }
 
     module _ (some : ¬ (n ≡ 0)) where
-      pub child_apart : meets (region_entered n side g) q ≡ false → Encodes c true hits counters after
+      pub child_apart : meets (region_entered n side g) q ≡ false → Encodes c (Ok tt) hits counters after
       child_apart m = record { counted = e.ready.counted; state = enter-apart n p _ k _ e.leads _ _ _ not-blank some m }
 
       -- it is gone through at the place `link`, and k has the region r
@@ -143,56 +146,47 @@ module _ (w : List ℕ) (c : ℕ) (q : Region) (passes : Grant → Bool) where
         meeting : meets (region_entered n side g) q ≡ true
         meeting = subst (λ (x : Region). meets x q ≡ true) child.same child.meeting
 
-        pub child_past : c < k → Encodes c false hits counters after
+        pub child_past : c < k → Encodes c (Err (record {})) hits counters after
         child_past past = record { counted = e.ready.counted; state = enter-above n p _ k _ e.leads _ _ _ not-blank some meeting past }
 
-        pub child_other : k ≤ c → ¬ (parent_at w k ≡ p) → Encodes c false hits counters after
+        pub child_other : k ≤ c → ¬ (parent_at w k ≡ p) → Encodes c (Err (record {})) hits counters after
         child_other few other = record { counted = e.ready.counted; state = enter_other n p _ k _ e.leads _ _ _ not-blank some meeting few other }
 
-        pub child_visited : k ≤ c → parent_at w k ≡ p → {b : Bool} {hits' counters' : List ℕ}
+        pub child_visited : k ≤ c → parent_at w k ≡ p → {b : Result ⊤ Broken} {hits' : List ℕ} {counters' : Counters}
             → Encodes c b hits' counters' (visited w c q passes hits counters k (n - 1) link r) → Encodes c b hits' counters' after
         child_visited few named v = record {
           counted = v.counted;
           state = v.state ∙ rw child.at (enter_visits n p _ k _ e.leads _ _ _ not-blank some child.same meeting few named);
         }
 
-  -- `enter` goes by the number of cells that the memory holds
-  pub entered-cells : (n p : ℕ) (side : Side) (g : Region) {hits counters : List ℕ} → Counted c hits counters → {r : Bool} {h t : List ℕ}
-      → Encodes (cells_in counters) r h t (entered w (cells_in counters) q passes hits counters n p side g)
-      → Encodes c r h t (entered w c q passes hits counters n p side g)
-  entered-cells n p side g {hits} {counters} counted {r} {h} {t} d =
-      subst (λ (m : ℕ). Encodes m r h t (entered w m q passes hits counters n p side g)) counted.cells d
-
   -- the subtree of the cell k, of the region g, on a side
-  module _ (n k : ℕ) (side : Side) (g : Region) (hits counters : List ℕ) where
+  module _ (n k : ℕ) (side : Side) (g : Region) (hits : List ℕ) (counters : Counters) where
     abbrev pub subtree : Search
-    subtree = enter w c q passes n k (link_place k side) (half side g (axis_of (levels - n))) (search_in true hits counters)
+    subtree = enter w c q passes n k (link_place k side) (half side g (axis_of (levels - n))) (so_far hits counters)
 
-    pub subtree_blank : get_or w (link_place k side) 0 ≡ 0 → Counted c hits counters → Encodes c true hits counters subtree
+    pub subtree_blank : get_or w (link_place k side) 0 ≡ 0 → Counted c hits counters → Encodes c (Ok tt) hits counters subtree
     subtree_blank z counted = record { counted = counted; state = enter-blank n k _ _ _ refl _ _ _ z }
 
-    pub subtree_entered : n ≤ levels → Counted c hits counters → {r : Bool} {h t : List ℕ}
-        → Encodes (cells_in counters) r h t (entered w (cells_in counters) q passes hits counters n k side g) → Encodes c r h t subtree
-    subtree_entered few counted d =
-        let held = entered-cells n k side g counted d in
-        record { counted = held.counted; state = held.state ∙ rw (le-leb n levels few) }
+    pub subtree_entered : n ≤ levels → {r : Result ⊤ Broken} {h : List ℕ} {t : Counters}
+        → Encodes c r h t (entered w c q passes hits counters n k side g) → Encodes c r h t subtree
+    subtree_entered few d = record { counted = d.counted; state = d.state ∙ rw (le-leb n levels few) }
 
   -- the three steps of a visit of the cell k, from what the memory stands for after each
-  module _ (n link k : ℕ) (g : Region) (hits counters : List ℕ) where
+  module _ (n link k : ℕ) (g : Region) (hits : List ℕ) (counters : Counters) where
     steps : {s₁ s₂ s₃ : Search} → s₁ ≡ tested w c q passes hits counters k (levels - n) link
         → s₂ ≡ enter w c q passes n k (link_place k Left) (half Left g (axis_of (levels - n))) s₁
         → s₃ ≡ enter w c q passes n k (link_place k Right) (half Right g (axis_of (levels - n))) s₂ → s₃ ≡ visited w c q passes hits counters k n link g
     unfolding visit_by
     steps e₁ e₂ e₃ = e₃ ∙ rw (e₂, e₁)
 
-    module _ {r : Bool} {h t : List ℕ} (d : Encodes c r h t (tested w c q passes hits counters k (levels - n) link)) where
-      pub visit_cut : r ≡ false → Encodes c false h t (visited w c q passes hits counters k n link g)
+    module _ {r : Result ⊤ Broken} {h : List ℕ} {t : Counters} (d : Encodes c r h t (tested w c q passes hits counters k (levels - n) link)) where
+      pub visit_cut : {b : Broken} → r ≡ Err b → Encodes c (Err b) h t (visited w c q passes hits counters k n link g)
       visit_cut e = record { counted = d.counted; state = steps (stands_as d e) (sym (enter-broken n _ _ _)) (sym (enter-broken n _ _ _)) }
 
-      module _ (going : r ≡ true) {r₂ : Bool} {h₂ t₂ : List ℕ} (d₂ : Encodes c r₂ h₂ t₂ (subtree n k Left g h t)) where
-        pub visit_left_cut : r₂ ≡ false → Encodes c false h₂ t₂ (visited w c q passes hits counters k n link g)
+      module _ {u : ⊤} (going : r ≡ Ok u) {r₂ : Result ⊤ Broken} {h₂ : List ℕ} {t₂ : Counters} (d₂ : Encodes c r₂ h₂ t₂ (subtree n k Left g h t)) where
+        pub visit_left_cut : {b : Broken} → r₂ ≡ Err b → Encodes c (Err b) h₂ t₂ (visited w c q passes hits counters k n link g)
         visit_left_cut e = record { counted = d₂.counted; state = steps (stands_as d going) (stands_as d₂ e) (sym (enter-broken n _ _ _)) }
 
-        pub visit_whole : r₂ ≡ true → {r₃ : Bool} {h₃ t₃ : List ℕ} → Encodes c r₃ h₃ t₃ (subtree n k Right g h₂ t₂)
+        pub visit_whole : {u₂ : ⊤} → r₂ ≡ Ok u₂ → {r₃ : Result ⊤ Broken} {h₃ : List ℕ} {t₃ : Counters} → Encodes c r₃ h₃ t₃ (subtree n k Right g h₂ t₂)
             → Encodes c r₃ h₃ t₃ (visited w c q passes hits counters k n link g)
         visit_whole e d₃ = record { counted = d₃.counted; state = steps (stands_as d going) (stands_as d₂ e) d₃.state }

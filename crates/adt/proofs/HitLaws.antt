@@ -4,6 +4,8 @@
 --   stands_within     the same of the memory that stands for it, by the hit's place
 -- Assumes nothing.
 use Prim.Native.Nat.{ℕ, zero, suc, ◌<◌, ◌≤◌}
+use Rattle.std.proofs.Common.{Ok}
+use Rattle.std.specs.Prelude.{⊤}
 use mathlib.Core.Path.{◌≡◌, refl, sym, ap, subst}
 use mathlib.Core.Logic.{⊎_elim}
 use mathlib.Core.Bool.{Bool, true, false, cond}
@@ -25,7 +27,8 @@ use Rattle.model.specs.Limits.{max_grants}
 use Rattle.pool.specs.Capacity.{capacity_of}
 use Rattle.adt.specs.Node.{link_place}
 use Rattle.adt.specs.Search.{Spot, going, search_by}
-use Rattle.adt.specs.SearchMemory.{found_in, Encodes}
+use Rattle.adt.specs.declared.search.Counters.{Counters}
+use Rattle.adt.specs.SearchMemory.{Encodes}
 use Rattle.adt.specs.Links.{Link, meets_cause, broken_by, search_from, search_links, is_hit, hits_among}
 use Rattle.adt.proofs.LinkLaws.{or_left, or_right, right_within}
 use Rattle.adt.proofs.SearchLinks.{search-going}
@@ -93,12 +96,12 @@ hits-within w q passes met hits first e k m =
     let few = unbroken-below w (capacity_of w) _ (or_left _ _ s.whole) f.0 on in
     record { some = subst (λ (x : ℕ). 0 < x) f.1 some; few = subst (λ (x : ℕ). x ≤ capacity_of w) f.1 few }
 
-pub stands_within : (w : List ℕ) (q : Region) (passes : Grant → Bool) {c : ℕ} {h t : List ℕ}
-    → Encodes c true h t (search_by w q passes) → c ≤ max_grants → capacity_of w ≡ c → (i : ℕ) → i < found_in t → IsCell c (get_or h i 0)
-stands_within w q passes {c} {h} {t} s few e i lt =
+pub stands_within : (w : List ℕ) (q : Region) (passes : Grant → Bool) {c : ℕ} {u : ⊤} {h : List ℕ} {t : Counters}
+    → Encodes c (Ok u) h t (search_by w q passes) → c ≤ max_grants → capacity_of w ≡ c → (i : ℕ) → i < t.found → IsCell c (get_or h i 0)
+stands_within w q passes {h = h} {t = t} s few e i lt =
     let n = s.counted in
-    let long : length (take (found_in t) h) ≡ found_in t = length-take-le (found_in t) h (omega (arith, n.hit_room, n.found-met, n.met-cells)) in
-    let m = mem_get_d (take (found_in t) h) i 0 (omega arith) in
-    let found = subst (λ (k : ℕ). Memᴰ k (take (found_in t) h)) (get_or-take (found_in t) h i 0 lt) m in
+    let long : length (take t.found h) ≡ t.found = length-take-le t.found h (omega (arith, n.hit_room, n.found-met, n.met-cells)) in
+    let m = mem_get_d (take t.found h) i 0 (omega arith) in
+    let found = subst (λ (k : ℕ). Memᴰ k (take t.found h)) (get_or-take t.found h i 0 lt) m in
     let cell = hits-within w q passes _ _ _ (sym s.state) (get_or h i 0) found in
     subst (λ (x : ℕ). IsCell x (get_or h i 0)) e cell

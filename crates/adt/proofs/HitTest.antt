@@ -1,17 +1,12 @@
--- A cell's point against a search range, comparison by comparison; and its grant's box against an asked one.
+-- A cell's point against a search range, comparison by comparison.
 --   beyond, short     a coordinate above the range's high, or below its low
---   taken_so          what list's choice takes, from the answer of the three
 -- Assumes nothing.
 use Prim.Native.Nat.{ℕ, ◌<◌}
 use mathlib.Core.Path.{◌≡◌, sym}
-use mathlib.Core.Bool.{Bool, false}
+use mathlib.Core.Bool.{false}
 use mathlib.Core.List.{List}
 use native.Mathlib.Omega.{arith}
 use lib.ListN.{get_or}
-use Rattle.model.specs.declared.Box.{Box}
-use Rattle.model.specs.declared.Relation.{Relation}
-use Rattle.model.specs.declared.Choice.{Choice}
-use Rattle.model.specs.Relation.{relation_of, takes}
 use Rattle.geometry.specs.Axis.{axes}
 use Rattle.geometry.specs.Region.{Region, low, high}
 use Rattle.geometry.specs.Point.{inside}
@@ -23,7 +18,3 @@ module _ (q : Region) (p : List ℕ) (a : ℕ) (h : a < axes) {x : ℕ} (e : x �
 
   pub short : {y : ℕ} → y ≡ low q a → x < y → false ≡ inside q p
   short f below = sym (outside_on q p a h (λ s. omega (arith, e, f, s.above, below)))
-
-pub taken_so : (choice : Choice) (b : Box) {asked a bounds : Box} {relation : Relation} {r : Bool} → asked ≡ b → a ≡ bounds
-    → relation ≡ relation_of a asked → r ≡ takes choice relation → r ≡ takes choice (relation_of bounds b)
-taken_so choice b boxed read related told = rw (← boxed, ← read, ← related) told

@@ -5,23 +5,22 @@
 --   RemovalStep w c below k met    a removal walk in a pool of c cells may go on from the cell k
 --   Removable w k link leaf cut    the cells and link places of a removal lie in the pool
 -- Assumes nothing: these are definitions.
-use Rattle.std.specs.Prelude.{ℕ, ◌<◌, ◌≤◌, ◌≡◌, List, length}
+use Rattle.std.specs.Prelude.{ℕ, ◌<◌, ◌≤◌, ◌≡◌, List, length, Result, Ok, Err}
 use Rattle.geometry.specs.Levels.{levels}
 use Rattle.pool.specs.Capacity.{Sized, InPool}
+use Rattle.adt.specs.declared.Broken.{Broken}
 use Rattle.adt.specs.declared.insert.Slot.{Slot}
-use Rattle.adt.specs.declared.insert.Slot.TheVariants as slot
 use Rattle.adt.specs.declared.remove.Terminal.{Terminal}
-use Rattle.adt.specs.declared.remove.Terminal.TheVariants as terminal
 use Rattle.adt.specs.Insert as insert
 use Rattle.adt.specs.Remove as remove
 
-abbrev pub insertion_walk_of : Slot → insert.InsertionWalk
-insertion_walk_of slot.Broken = insert.broken
-insertion_walk_of (slot.At link parent) = insert.blank_at link parent
+abbrev pub insertion_walk_of : Result Slot Broken → insert.InsertionWalk
+insertion_walk_of (Err broken) = insert.broken
+insertion_walk_of (Ok slot) = insert.blank_at slot.link slot.parent
 
-abbrev pub removal_walk_of : Terminal → remove.RemovalWalk
-removal_walk_of terminal.Broken = remove.broken
-removal_walk_of (terminal.At cell link) = remove.terminal cell link
+abbrev pub removal_walk_of : Result Terminal Broken → remove.RemovalWalk
+removal_walk_of (Err broken) = remove.broken
+removal_walk_of (Ok end) = remove.terminal end.cell end.link
 
 -- the free head's cell, which is to hang at the link's place, and the free head after it
 pub record FreeSlot (w : List ℕ) (link free next : ℕ) : Type 0 where

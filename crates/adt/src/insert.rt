@@ -4,55 +4,52 @@ ghost use Rattle.pool.specs.Capacity.{Sized};
 ghost use Rattle.adt.specs.Insert.{descend, inserted};
 ghost use Rattle.adt.specs.WalkResult.{insertion_walk_of, FreeSlot};
 
+use crate::Broken;
 use crate::node::link_place;
 use geometry::axis::{LEVELS, axis_of};
 use geometry::region::{Point, half_of, root_region, side_of};
 use model::Grant;
 use pool::Field;
 use pool::cell::store_grant;
-use pool::layout::{FREE, ROOT, field, wide};
+use pool::layout::{FREE, ROOT, field};
 
-// Where a way down ends: at a cause of fault 9, or at the place of the blank link, which is the parent's, 0 for the root's.
+// Where a way down ends: the place of the blank link, and the cell that it is a link of, 0 for the root's.
 #[derive(Clone, Copy)]
-pub enum Slot {
-    Broken,
-    At { link: usize, parent: u16 },
+pub struct Slot {
+    pub link: usize,
+    pub parent: u16,
 }
 
-// The way down of a point.
-pub fn find_slot(pool: &[u16], cells: usize, point: Point) -> Slot
+// The way down of a point: at each level it meets one cell.
+pub fn find_slot(pool: &[u16], cells: usize, point: Point) -> Result<Slot, Broken>
     requires { Sized pool.now cells }
     ensures { insertion_walk_of result ≡ descend pool.now point }
 {
     let mut region = root_region();
     let mut parent: u16 = 0;
     let mut link: usize = ROOT;
-    let mut below: usize = LEVELS + 1;
-    let mut met: usize = 0;
-    while 0 < below {
-        below -= 1;
+    for level in 0..LEVELS + 1 {
         let child = pool[link];
-        let k = wide(child);
+        let k = usize::from(child);
         if k == 0 {
-            return Slot::At { link, parent };
+            return Ok(Slot { link, parent });
         }
         if cells < k {
-            return Slot::Broken;
+            return Err(Broken);
         }
-        if cells <= met {
-            return Slot::Broken;
+        if cells <= level {
+            return Err(Broken);
         }
         if field(pool, k, Field::Parent) != parent {
-            return Slot::Broken;
+            return Err(Broken);
         }
-        let axis = axis_of(LEVELS - below);
+        let axis = axis_of(level);
         let side = side_of(&region, axis, point[axis]);
         region[axis] = half_of(side, region[axis][0], region[axis][1]);
         link = link_place(k, side);
         parent = child;
-        met += 1;
     }
-    Slot::Broken
+    Err(Broken)
 }
 
 // Hangs the free head's cell at the parent's blank link with the grant in it; the free head moves on to the next free cell.

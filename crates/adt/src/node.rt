@@ -12,7 +12,7 @@ use geometry::axis::{DOOR_FROM, DOOR_TO, NUMBER, QUARTER_FROM, QUARTER_TO, STAFF
 use geometry::region::{Point, Region};
 use model::Grant;
 use pool::Field;
-use pool::layout::{field, place_of, wide};
+use pool::layout::{field, place_of};
 
 // A grant as a point on seven axes.
 pub fn point_of(g: Grant) -> Point
@@ -45,19 +45,19 @@ pub fn in_range(pool: &[u16], cell: usize, range: &Region) -> bool
     if range[STAFF_FROM][1] < field(pool, cell, Field::StaffFrom) {
         return false;
     }
-    if wide(field(pool, cell, Field::StaffTo)) < wide(range[STAFF_TO][0]) {
+    if field(pool, cell, Field::StaffTo) < range[STAFF_TO][0] {
         return false;
     }
     if range[DOOR_FROM][1] < field(pool, cell, Field::DoorFrom) {
         return false;
     }
-    if wide(field(pool, cell, Field::DoorTo)) < wide(range[DOOR_TO][0]) {
+    if field(pool, cell, Field::DoorTo) < range[DOOR_TO][0] {
         return false;
     }
     if range[QUARTER_FROM][1] < field(pool, cell, Field::QuarterFrom) {
         return false;
     }
-    if wide(field(pool, cell, Field::QuarterTo)) < wide(range[QUARTER_TO][0]) {
+    if field(pool, cell, Field::QuarterTo) < range[QUARTER_TO][0] {
         return false;
     }
     true

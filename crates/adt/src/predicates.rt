@@ -4,7 +4,7 @@ ghost use Rattle.model.specs.Relation.{taken};
 ghost use Rattle.geometry.specs.SearchRange.{OneSided};
 ghost use Rattle.pool.specs.Capacity.{InPool};
 ghost use Rattle.pool.specs.Cell.{grant_at};
-ghost use Rattle.adt.specs.Predicate.{test_of, choice_in, box_in, predicate_in};
+ghost use Rattle.adt.specs.Predicate.{test_of};
 
 use crate::node::in_range;
 use geometry::region::Region;
@@ -19,76 +19,28 @@ pub enum Predicate {
     Taken { bounds: Box, choice: Choice },
 }
 
-// The same as seven numbers, which the walk hands on by reference: which it is, and the box. Handed on by value it is copied at each cell.
-pub type PredicateWords = [u16; 7];
-
-const IN_RANGE: u16 = 0;
-
-const TOUCHING: u16 = 1;
-
-const HOLDING: u16 = 2;
-
-fn choice_number(choice: Choice) -> u16
-    ensures result_value { choice_in result ≡ choice }
-    ensures not_result { ¬ (result ≡ 0) }
-{
-    match choice {
-        Choice::Touching => TOUCHING,
-        Choice::Holding => HOLDING,
-    }
-}
-
-pub fn words_of(predicate: Predicate) -> PredicateWords
-    ensures { predicate_in result ≡ predicate }
-{
-    match predicate {
-        Predicate::InRange => [IN_RANGE, 0, 0, 0, 0, 0, 0],
-        Predicate::Taken { bounds, choice } => [
-            choice_number(choice),
-            bounds.staff_from,
-            bounds.staff_to,
-            bounds.door_from,
-            bounds.door_to,
-            bounds.quarter_from,
-            bounds.quarter_to,
-        ],
-    }
-}
-
-fn box_in(predicate: &PredicateWords) -> Box
-    ensures { result ≡ box_in predicate.now }
-{
-    Box {
-        staff_from: predicate[1],
-        staff_to: predicate[2],
-        door_from: predicate[3],
-        door_to: predicate[4],
-        quarter_from: predicate[5],
-        quarter_to: predicate[6],
-    }
-}
-
-// Whether the choice takes the grant in a cell for the predicate's box.
-fn is_taken(pool: &[u16], cell: usize, predicate: &PredicateWords, choice: Choice) -> bool
+// Whether the choice takes the grant in a cell for a box.
+fn is_taken(pool: &[u16], cell: usize, bounds: &Box, choice: Choice) -> bool
     requires { InPool pool.now cell }
-    ensures { result ≡ taken choice (box_in predicate.now) (grant_at pool.now cell) }
+    ensures { result ≡ taken choice bounds.now (grant_at pool.now cell) }
 {
-    takes(
-        choice,
-        relation_of(bounds_at(pool, cell), box_in(predicate)),
-    )
+    takes(choice, relation_of(bounds_at(pool, cell), *bounds))
 }
 
 // Whether a cell that is met is a hit. The choice is tested first, so that what only holding looks at is left out for touching.
-pub fn is_hit(pool: &[u16], cell: usize, range: &Region, predicate: &PredicateWords) -> bool
+pub fn is_hit(pool: &[u16], cell: usize, range: &Region, predicate: &Predicate) -> bool
     requires { InPool pool.now cell × OneSided range.now }
-    ensures { result ≡ test_of (predicate_in predicate.now) range.now (grant_at pool.now cell) }
+    ensures { result ≡ test_of predicate.now range.now (grant_at pool.now cell) }
 {
-    if predicate[0] == IN_RANGE {
-        return in_range(pool, cell, range);
+    match predicate {
+        Predicate::InRange => in_range(pool, cell, range),
+        Predicate::Taken {
+            bounds,
+            choice: Choice::Touching,
+        } => is_taken(pool, cell, bounds, Choice::Touching),
+        Predicate::Taken {
+            bounds,
+            choice: Choice::Holding,
+        } => is_taken(pool, cell, bounds, Choice::Holding),
     }
-    if predicate[0] == TOUCHING {
-        return is_taken(pool, cell, predicate, Choice::Touching);
-    }
-    is_taken(pool, cell, predicate, Choice::Holding)
 }

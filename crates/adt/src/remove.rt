@@ -4,15 +4,16 @@ ghost use Rattle.pool.specs.Capacity.{pool_length, Sized, InPool};
 ghost use Rattle.adt.specs.Remove.{next_link, follow, replaced, reparented, raised, freed, removed};
 ghost use Rattle.adt.specs.WalkResult.{removal_walk_of, RemovalStep, Removable};
 
+use crate::Broken;
 use pool::Field;
 use pool::cell::store_free;
-use pool::layout::{FREE, field, place_of, set_field, wide};
+use pool::layout::{FREE, field, place_of, set_field};
 
-// Where a removal walk ends: at a cause of fault 9, or at the terminal cell and the place of the link it hangs on.
+// Where a removal walk ends: the terminal cell and the place of the link it hangs on.
 #[derive(Clone, Copy)]
-pub enum Terminal {
-    Broken,
-    At { cell: usize, link: usize },
+pub struct Terminal {
+    pub cell: usize,
+    pub link: usize,
 }
 
 // The place of the link that the walk goes through: left where that is not blank, else right.
@@ -35,26 +36,26 @@ pub fn find_terminal(
     k: usize,
     link: usize,
     met: usize,
-) -> Terminal
+) -> Result<Terminal, Broken>
     requires { RemovalStep pool.now cells below k met }
     ensures { removal_walk_of result ≡ follow pool.now cells below k link met }
 {
     let at = next_link(pool, k);
-    let next = wide(pool[at]);
+    let next = usize::from(pool[at]);
     if next == 0 {
-        return Terminal::At { cell: k, link };
+        return Ok(Terminal { cell: k, link });
     }
     if below == 0 {
-        return Terminal::Broken;
+        return Err(Broken);
     }
     if cells < next {
-        return Terminal::Broken;
+        return Err(Broken);
     }
     if cells <= met {
-        return Terminal::Broken;
+        return Err(Broken);
     }
-    if wide(field(pool, next, Field::Parent)) != k {
-        return Terminal::Broken;
+    if usize::from(field(pool, next, Field::Parent)) != k {
+        return Err(Broken);
     }
     find_terminal(pool, cells, below - 1, next, at, met + 1)
 }
@@ -77,14 +78,10 @@ fn reparent(pool: &mut [u16], cells: usize, child: u16, parent: u16)
     requires { Sized pool.old cells }
     ensures { pool.new ≡ reparented pool.old child parent }
 {
-    let j = wide(child);
-    if j == 0 {
-        return;
+    let j = usize::from(child);
+    if 0 < j && j <= cells {
+        set_field(pool, j, Field::Parent, parent);
     }
-    if cells < j {
-        return;
-    }
-    set_field(pool, j, Field::Parent, parent);
 }
 
 // The terminal cell, which has the links of k, gets its parent too, and becomes the parent of its children.
@@ -117,10 +114,9 @@ pub fn remove(pool: &mut [u16], cells: usize, k: usize, link: usize, leaf: usize
 {
     if leaf == k {
         pool[link] = 0;
-        free(pool, k);
-        return;
+    } else {
+        replace(pool, k, link, leaf, cut);
+        raise(pool, cells, k, leaf);
     }
-    replace(pool, k, link, leaf, cut);
-    raise(pool, cells, k, leaf);
     free(pool, k);
 }

@@ -1,129 +1,100 @@
 // The search: source 001's three steps. `visit` tests a cell and enters its two subtrees; `enter` tests a subtree's region against
-// the range and visits its cell. The levels remaining fall. A search that meets a cause of fault 9 answers false at once.
+// the range and visits its cell. The levels remaining fall. A search that meets a cause of fault 9 stops at once.
 ghost use Rattle.geometry.specs.SearchRange.{OneSided};
 ghost use Rattle.adt.specs.Search.{search_by};
-ghost use Rattle.adt.specs.Predicate.{test_of, predicate_in};
-ghost use Rattle.adt.specs.SearchMemory.{cells_in, Fresh, Encodes, Testing, Visiting, Entering, tested, visited, entered};
+ghost use Rattle.adt.specs.Predicate.{test_of};
+ghost use Rattle.adt.specs.SearchMemory.{Fresh, Encodes, Testing, Visiting, Entering, tested, visited, entered};
 
+use crate::Broken;
 use crate::node::link_place;
-use crate::predicates::{Predicate, PredicateWords, is_hit, words_of};
+use crate::predicates::{Predicate, is_hit};
 use geometry::Side;
 use geometry::axis::{LEVELS, axis_of};
 use geometry::region::{Region, half_meets, half_of, meets_range, root_region};
 use pool::Field;
-use pool::layout::{MAX_CAPACITY, ROOT, field, wide};
+use pool::layout::{MAX_CAPACITY, ROOT, field};
 
 // Room for a hit of every cell: the cells of the hits, in the order of the search.
 pub type HitCells = [u16; MAX_CAPACITY];
 
-// How many numbers a search keeps beside its hits.
-pub const COUNTER_PLACES: usize = 5;
+// What a search counts: the cells met, the hits found, and of the first hit its level and the place of the link it hangs on.
+#[derive(Clone, Copy, Default)]
+pub struct Counters {
+    met: usize,
+    pub found: usize,
+    pub level: usize,
+    pub link: usize,
+}
 
-pub type Counters = [usize; COUNTER_PLACES];
+// What stays as it is during a search: the pool and how many cells it has, the search range and what is a hit. By reference: as arguments of their
+// own they would be copied at each cell.
+#[derive(Clone, Copy)]
+struct Walk<'a> {
+    pool: &'a [u16],
+    cells: usize,
+    range: &'a Region,
+    predicate: &'a Predicate,
+}
 
-// The places of a search's counters: the cells met, the hits found, of the first hit its level and the place of the link it hangs on, and how many
-// cells there are. The last stays as it is; as an argument of its own it would be copied at each cell.
-const MET: usize = 0;
-
-pub const FOUND: usize = 1;
-
-pub const LEVEL: usize = 2;
-
-pub const LINK: usize = 3;
-
-const CELLS: usize = 4;
-
-// Counts the cell k as met, and keeps it if it is a hit; false where all cells have been met before.
+// Counts the cell k as met, and keeps it if it is a hit; broken where all cells have been met before.
 fn test(
-    pool: &[u16],
+    walk: &Walk,
     k: usize,
     level: usize,
     link: usize,
-    range: &Region,
-    predicate: &PredicateWords,
     hits: &mut HitCells,
     counters: &mut Counters,
-) -> bool
-    requires { Testing pool.now (cells_in counters.old) range.now hits.old counters.old k }
-    ensures { Encodes (cells_in counters.old) result hits.new counters.new
-        (tested pool.now (cells_in counters.old) range.now
-        (test_of (predicate_in predicate.now) range.now) hits.old counters.old k level link) }
+) -> Result<(), Broken>
+    requires { Testing walk.now.pool.now walk.now.cells walk.now.range.now hits.old counters.old k }
+    ensures { Encodes walk.now.cells result hits.new counters.new
+        (tested walk.now.pool.now walk.now.cells walk.now.range.now
+        (test_of walk.now.predicate.now walk.now.range.now) hits.old counters.old k level link) }
 {
-    let met = counters[MET];
-    let found = counters[FOUND];
-    if counters[CELLS] <= met {
-        return false;
+    if walk.cells <= counters.met {
+        return Err(Broken);
     }
-    counters[MET] = met + 1;
-    if !is_hit(pool, k, range, predicate) {
-        return true;
+    counters.met += 1;
+    if !is_hit(walk.pool, k, walk.range, walk.predicate) {
+        return Ok(());
     }
-    counters[FOUND] = found + 1;
+    let found = counters.found;
+    counters.found = found + 1;
     hits[found] = k as u16;
-    if 0 < found {
-        return true;
+    if found == 0 {
+        counters.level = level;
+        counters.link = link;
     }
-    counters[LEVEL] = level;
-    counters[LINK] = link;
-    true
+    Ok(())
 }
 
 // Tests the cell k, which hangs at the link's place with a region of its own and a number of levels below it; then enters its left and its
 // right subtree, where it has one.
 #[cycle(enter_visit)]
 fn visit(
-    pool: &[u16],
+    walk: &Walk,
     below: usize,
     k: usize,
     link: usize,
     region: Region,
-    range: &Region,
-    predicate: &PredicateWords,
     hits: &mut HitCells,
     counters: &mut Counters,
-) -> bool
-    requires { Visiting pool.now (cells_in counters.old) range.now hits.old counters.old k below region }
-    ensures { Encodes (cells_in counters.old) result hits.new counters.new
-        (visited pool.now (cells_in counters.old) range.now
-        (test_of (predicate_in predicate.now) range.now) hits.old counters.old k below link region) }
+) -> Result<(), Broken>
+    requires { Visiting walk.now.pool.now walk.now.cells walk.now.range.now hits.old counters.old k below region }
+    ensures { Encodes walk.now.cells result hits.new counters.new
+        (visited walk.now.pool.now walk.now.cells walk.now.range.now
+        (test_of walk.now.predicate.now walk.now.range.now) hits.old counters.old k below link region) }
 {
     let level = LEVELS - below;
-    if !test(pool, k, level, link, range, predicate, hits, counters) {
-        return false;
-    }
-    let left = wide(field(pool, k, Field::Left));
+    test(walk, k, level, link, hits, counters)?;
+    let left = usize::from(field(walk.pool, k, Field::Left));
     if left != 0 {
-        if !enter(
-            pool,
-            below,
-            k,
-            Side::Left,
-            left,
-            region,
-            range,
-            predicate,
-            hits,
-            counters,
-        ) {
-            return false;
-        }
+        enter(walk, below, k, Side::Left, left, region, hits, counters)?;
     }
-    let right = wide(field(pool, k, Field::Right));
+    let right = usize::from(field(walk.pool, k, Field::Right));
     if right == 0 {
-        return true;
+        return Ok(());
     }
-    enter(
-        pool,
-        below,
-        k,
-        Side::Right,
-        right,
-        region,
-        range,
-        predicate,
-        hits,
-        counters,
-    )
+    enter(walk, below, k, Side::Right, right, region, hits, counters)
 }
 
 // Goes through the link of the parent on a side, which leads to the child, if the half of the parent's region on that side meets the range, and
@@ -131,55 +102,43 @@ fn visit(
 // parent, and all of the region that is handed in. `visit` is called from here alone, so that both are one frame of the stack a level (tests/stack).
 #[cycle(enter_visit)]
 fn enter(
-    pool: &[u16],
+    walk: &Walk,
     below: usize,
     parent: usize,
     side: Side,
     child: usize,
     mut region: Region,
-    range: &Region,
-    predicate: &PredicateWords,
     hits: &mut HitCells,
     counters: &mut Counters,
-) -> bool
-    requires { Entering pool.now (cells_in counters.old) range.now hits.old counters.old below parent side child region }
-    ensures { Encodes (cells_in counters.old) result hits.new counters.new
-        (entered pool.now (cells_in counters.old) range.now
-        (test_of (predicate_in predicate.now) range.now) hits.old counters.old below parent side region) }
+) -> Result<(), Broken>
+    requires { Entering walk.now.pool.now walk.now.cells walk.now.range.now hits.old counters.old below parent side child region }
+    ensures { Encodes walk.now.cells result hits.new counters.new
+        (entered walk.now.pool.now walk.now.cells walk.now.range.now
+        (test_of walk.now.predicate.now walk.now.range.now) hits.old counters.old below parent side region) }
 {
     if below == 0 {
-        return false;
+        return Err(Broken);
     }
     let mut link: usize = ROOT;
     if below <= LEVELS {
         let axis = axis_of(LEVELS - below);
-        if !half_meets(&region, range, axis, side) {
-            return true;
+        if !half_meets(&region, walk.range, axis, side) {
+            return Ok(());
         }
         region[axis] = half_of(side, region[axis][0], region[axis][1]);
         link = link_place(parent, side);
     }
-    if counters[CELLS] < child {
-        return false;
+    if walk.cells < child {
+        return Err(Broken);
     }
-    if wide(field(pool, child, Field::Parent)) != parent {
-        return false;
+    if usize::from(field(walk.pool, child, Field::Parent)) != parent {
+        return Err(Broken);
     }
-    visit(
-        pool,
-        below - 1,
-        child,
-        link,
-        region,
-        range,
-        predicate,
-        hits,
-        counters,
-    )
+    visit(walk, below - 1, child, link, region, hits, counters)
 }
 
 // Searches the tree through the range, for the cells that are hits by the predicate. Leaves them in `hits`, in the order of the search, and in
-// `counters` how many there are, with the first one's level and the place of its link. False where the walk met a cause of fault 9.
+// `counters` how many there are, with the first one's level and the place of its link.
 pub fn search(
     pool: &[u16],
     cells: usize,
@@ -187,30 +146,32 @@ pub fn search(
     predicate: Predicate,
     hits: &mut HitCells,
     counters: &mut Counters,
-) -> bool
+) -> Result<(), Broken>
     requires { Fresh pool.now cells hits.old counters.old × OneSided range.now }
     ensures { Encodes cells result hits.new counters.new
         (search_by pool.now range.now (test_of predicate range.now)) }
 {
-    counters[CELLS] = cells;
-    let root = wide(pool[ROOT]);
+    let root = usize::from(pool[ROOT]);
     if root == 0 {
-        return true;
+        return Ok(());
     }
     let region = root_region();
     if !meets_range(&region, range) {
-        return true;
+        return Ok(());
     }
-    let words = words_of(predicate);
-    enter(
+    let walk = Walk {
         pool,
+        cells,
+        range,
+        predicate: &predicate,
+    };
+    enter(
+        &walk,
         LEVELS + 1,
         0,
         Side::Left,
         root,
         region,
-        range,
-        &words,
         hits,
         counters,
     )

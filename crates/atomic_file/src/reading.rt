@@ -2,36 +2,29 @@
 ghost use Rattle.std.specs.Prelude.{length};
 ghost use Rattle.atomic_file.specs.Within.{ReadWithin};
 
-use crate::Read;
 use crate::path::open_read;
-use console::errors::number_of;
+use console::errors::Failure;
 use std::io;
 
-// Reads on from an open file until the bytes are full or the file ends, however few come at a time.
-#[tactic(auto, unfolding(crate::specs::Within::ReadWithin))]
-pub fn read_on<R: io::Read>(from: &mut R, bytes: &mut [u8]) -> Read
+// Reads on from an open file until the bytes are full or the file ends, however few come at a time: how many were read.
+pub fn read_on<R: io::Read>(from: &mut R, bytes: &mut [u8]) -> Result<usize, Failure>
     ensures { ReadWithin (length bytes.old) result }
 {
     let mut done: usize = 0;
+    // No `for`: a turn goes on by as many bytes as came.
     while done < bytes.len() {
-        let more = match from.read(&mut bytes[done..]) {
-            Ok(more) => more,
-            Err(error) => return Read::Failed(number_of(error)),
-        };
+        let more = from.read(&mut bytes[done..])?;
         if more == 0 {
-            return Read::Bytes(done);
+            break;
         }
         done += more;
     }
-    Read::Bytes(done)
+    Ok(done)
 }
 
-#[tactic(auto, unfolding(crate::specs::Within::ReadWithin))]
-pub fn read(rt: HostRuntime, path: &[u8], bytes: &mut [u8]) -> Read
+pub fn read(rt: HostRuntime, path: &[u8], bytes: &mut [u8]) -> Result<usize, Failure>
     ensures { ReadWithin (length bytes.old) result }
 {
-    match open_read(rt, path) {
-        Ok(mut file) => read_on(&mut file, bytes),
-        Err(error) => Read::Failed(error),
-    }
+    let mut file = open_read(rt, path)?;
+    read_on(&mut file, bytes)
 }

@@ -1,59 +1,54 @@
 // Puts a file in place of another, or where there was none.
-use crate::Stored;
-use crate::beside::{Made, beside, make};
+use crate::beside::{beside, make};
 use crate::folder::sync_folder;
 use crate::known::Facts;
-use crate::path::text_of;
-use console::errors::{ENAMETOOLONG, number_of};
+use crate::path::{LONGEST_PATH, text_of};
+use console::errors::Failure;
 use std::fs::{File, Permissions, remove_file, rename};
-use std::io;
 use std::io::Write;
 use std::os::unix::fs::{PermissionsExt, fchown};
+
+// Why a file isn't stored: it is in place, but may be the old one again after a power cut; or it was not written, and nothing changed.
+#[derive(Clone, Copy)]
+pub enum Unstored {
+    Unsynced(Failure),
+    Failed(Failure),
+}
+
+impl From<Failure> for Unstored {
+    fn from(failure: Failure) -> Unstored {
+        Unstored::Failed(failure)
+    }
+}
 
 // Readable by all, to be changed by its owner alone.
 const MODE: u32 = 0o644;
 
-// Whose the new file is, and its mode: as any new file, or as the file was that it replaces.
-#[derive(Clone, Copy)]
-pub enum Like {
-    New,
-    Old(Facts),
+// Whose the new file is, and its mode: as the file was that it replaces, or as any new file.
+fn set_mode(file: &File, old: Option<Facts>) -> Result<(), Failure> {
+    let mode = match old {
+        Some(facts) => {
+            fchown(file, Some(facts.owner), Some(facts.group))?;
+            facts.mode % 4096
+        }
+        None => MODE,
+    };
+    file.set_permissions(Permissions::from_mode(mode))?;
+    Ok(())
 }
 
-fn keep(file: &File, old: Facts) -> io::Result<()> {
-    fchown(file, Some(old.owner), Some(old.group))?;
-    file.set_permissions(Permissions::from_mode(old.mode % 4096))
-}
-
-fn set_mode(file: &File, like: Like) -> io::Result<()> {
-    match like {
-        Like::New => file.set_permissions(Permissions::from_mode(MODE)),
-        Like::Old(old) => keep(file, old),
-    }
-}
-
-fn fill_open(file: &mut File, like: Like, bytes: &[u8]) -> io::Result<()> {
-    set_mode(file, like)?;
+// Writes the bytes into a file once it has its mode, waits until they have reached the disk, and closes it.
+fn fill(mut file: File, old: Option<Facts>, bytes: &[u8]) -> Result<(), Failure> {
+    set_mode(&file, old)?;
     file.write_all(bytes)?;
-    file.sync_all()
+    file.sync_all()?;
+    Ok(())
 }
 
-// Writes the bytes into a file that has its mode already, waits until they have reached the disk, and closes it.
-fn fill(mut file: File, like: Like, bytes: &[u8]) -> Stored {
-    match fill_open(&mut file, like, bytes) {
-        Ok(()) => Stored::Done,
-        Err(error) => Stored::Failed(number_of(error)),
-    }
-}
-
-// Gives a file another name, or answers the system's error number.
-fn move_to(rt: HostRuntime, name: &[u8], path: &[u8]) -> Result<(), i32> {
-    let from = text_of(name)?;
-    let to = text_of(path)?;
-    match rename(&rt, from, to) {
-        Ok(()) => Ok(()),
-        Err(error) => Err(number_of(error)),
-    }
+// Gives a file another name.
+fn move_to(rt: HostRuntime, name: &[u8], path: &[u8]) -> Result<(), Failure> {
+    rename(&rt, text_of(name)?, text_of(path)?)?;
+    Ok(())
 }
 
 fn remove(rt: HostRuntime, name: &[u8]) {
@@ -62,31 +57,35 @@ fn remove(rt: HostRuntime, name: &[u8]) {
     }
 }
 
-// Gives the new file its name; where that can't be, or it isn't whole, it is removed again.
-fn place(rt: HostRuntime, filled: Stored, name: &[u8], path: &[u8]) -> Stored {
-    let Stored::Done = filled else {
-        remove(rt, name);
-        return filled;
-    };
-    if let Err(error) = move_to(rt, name, path) {
-        remove(rt, name);
-        return Stored::Failed(error);
-    }
-    sync_folder(rt, path)
+// Fills the new file and gives it its name.
+fn place(
+    rt: HostRuntime,
+    file: File,
+    old: Option<Facts>,
+    bytes: &[u8],
+    name: &[u8],
+    path: &[u8],
+) -> Result<(), Failure> {
+    fill(file, old, bytes)?;
+    move_to(rt, name, path)
 }
 
-pub fn replace(rt: HostRuntime, path: &[u8], like: Like, bytes: &[u8]) -> Stored {
-    if 4000 < path.len() {
-        return Stored::Failed(ENAMETOOLONG);
+// Stores the bytes as the file of this path, in place of an old one where there is one. A new file that isn't whole, or can't get its name,
+// is removed again.
+pub fn replace(
+    rt: HostRuntime,
+    path: &[u8],
+    old: Option<Facts>,
+    bytes: &[u8],
+) -> Result<(), Unstored> {
+    if LONGEST_PATH < path.len() {
+        return Err(Unstored::Failed(Failure::NameTooLong));
     }
-    let made = make(rt, path);
-    match made {
-        Made::As { file, digit } => {
-            let filled = fill(file, like, bytes);
-            let mut name = [0u8; 4096];
-            let length = beside(path, digit, &mut name);
-            place(rt, filled, &name[..length], path)
-        }
-        Made::Failed(error) => Stored::Failed(error),
+    let made = make(rt, path)?;
+    let name = beside(path, made.digit);
+    if let Err(failure) = place(rt, made.file, old, bytes, name.as_slice(), path) {
+        remove(rt, name.as_slice());
+        return Err(Unstored::Failed(failure));
     }
+    sync_folder(rt, path).map_err(Unstored::Unsynced)
 }

@@ -1,6 +1,4 @@
 -- Block read's tests, one after the other, as the code makes them, and what an accepted block has.
---   in_count, in_left                       the tests of `not_in_file`
---   count_inner, count_zero, count-last     the tests of `wrong_count`
 --   alone-start, alone_header, alone_layout the defects of a block
 --   read_length, read_answer                the verdict
 --   length_in, done_in, done_count          the block is in the file; its count is at most 31
@@ -13,13 +11,13 @@ use mathlib.Core.Logic.{◌⊎◌, inl, inr}
 use mathlib.Core.Path.{◌≡◌, refl, sym, ap, subst, ◌∙◌}
 use mathlib.Core.Bool.{Bool, true, false, not, cond, ◌&&◌, and-eq-true_iff}
 use mathlib.Core.List.{List, []}
-use mathlib.Core.Option.{Option, none, some}
-use native.Mathlib.Numerals.{add-one}
+use Rattle.std.specs.Bool.{⊤}
+use Rattle.std.proofs.Common.{Option, None, Some, Result, Ok, Err}
 use native.Mathlib.Omega.{arith}
-use lib.Dec.{eqb, leb, ltb}
+use lib.Dec.{eqb, leb}
 use lib.ListN.{length, drop, length-take, length-drop}
 use denote.Ref.{Bor}
-use borrow.Author.Tests.{leb-true, leb-false, eqb-true, not-false, eq-eqb, ne_eqb, le-leb}
+use borrow.Author.Tests.{leb-true, leb-false, eqb-true, not-false}
 use Rattle.lists.proofs.OrLaws.{or_false_iff}
 use Rattle.model.specs.declared.Fault.{Fault}
 use Rattle.model.specs.declared.Fault.TheVariants.{BadLength}
@@ -31,63 +29,39 @@ use Rattle.grants_file.specs.Layout.{header_end, records_per_block}
 use Rattle.grants_file.specs.Bytes.{bytes_at}
 use Rattle.grants_file.specs.Block.{count_of}
 use Rattle.grants_file.specs.File.{blocks_in, block_at, wrong_block_count}
-use Rattle.grants_file.specs.Defects.{start_defects, padding_defects, layout_defects, defect_fault, is_wrong, first_defect}
+use Rattle.grants_file.specs.Defects.{start_defects, padding_defects, layout_defects, first_defect}
 use Rattle.block_read.specs.BlockRead.{not_in_file, wrong_count, rest_defects, read_defects, read_causes, block_call}
 use Rattle.block_read.specs.BlockRead.{Part, empty_part, records_part, part_at, Occupies}
-use Rattle.grants_file.specs.Answers.{outcome_by}
-use Rattle.grants_file.proofs.FileSteps.{not_leb}
-use Rattle.grants_file.proofs.DefectLaws.{front_wrong, front_sound, clear_parts, clear_append, answer-first, judging-accepted, judging-refused}
-
-module _ (f : List ℕ) (i : ℕ) where
-  pub in_count : true ≡ wrong_block_count f → true ≡ not_in_file f i
-  unfolding not_in_file
-  in_count h = rw (← h)
-
-  pub in_left : false ≡ wrong_block_count f → leb (blocks_in f) i ≡ not_in_file f i
-  unfolding not_in_file
-  in_left h = rw (← h)
-
-  pub count_inner : (i + 1 ≡ blocks_in f → ⊥) → not (eqb (count_of (block_at f i)) records_per_block) ≡ wrong_count f i
-  unfolding wrong_count
-  count_inner h = rw (ne_eqb (suc i) (blocks_in f) (λ e. h (add-one i ∙ e)))
-
-  module _ (last : i + 1 ≡ blocks_in f) where
-    pub count_zero : count_of (block_at f i) ≡ 0 → true ≡ wrong_count f i
-    unfolding wrong_count
-    count_zero h = rw (eq-eqb (suc i) (blocks_in f) (sym (add-one i) ∙ last), h)
-
-    pub count-last : 0 < count_of (block_at f i) → ltb records_per_block (count_of (block_at f i)) ≡ wrong_count f i
-    unfolding wrong_count
-    count-last h =
-        rw (eq-eqb (suc i) (blocks_in f) (sym (add-one i) ∙ last), le-leb 1 (count_of (block_at f i)) h) (sym (not_leb (count_of (block_at f i)) records_per_block))
+use Rattle.grants_file.proofs.DefectLaws.{first_defect-append, outcome_of, clear_parts, clear_append, answer-first, judging-accepted, judging-refused}
 
 -- a block alone
-module _ (f : List ℕ) {b : List ℕ} {x : Defect} where
-  pub alone-start : (i : ℕ) → b ≡ block_at f i → x ≡ first_defect (start_defects b i) → true ≡ is_wrong x → x ≡ first_defect (read_defects f i)
-  alone-start i block e w = front_wrong (start_defects (block_at f i) i) (rest_defects f i) (rw block at e) w
+module _ (f : List ℕ) {b : List ℕ} {r : Result ⊤ Defect} where
+  pub alone-start : (i : ℕ) → b ≡ block_at f i → r ≡ first_defect (start_defects b i) → {x : Defect} → r ≡ Err x → Err x ≡ first_defect (read_defects f i)
+  alone-start i block e w = let first = rw block at e in rw (first_defect-append, ← first, w)
 
-  sound_start : (i : ℕ) → b ≡ block_at f i → x ≡ first_defect (start_defects b i) → false ≡ is_wrong x
+  sound_start : (i : ℕ) → b ≡ block_at f i → r ≡ first_defect (start_defects b i) → r ≡ Ok tt
       → first_defect (read_defects f i) ≡ first_defect (rest_defects f i)
-  sound_start i block e w = front_sound (start_defects (block_at f i) i) (rest_defects f i) (rw block at e) w
+  sound_start i block e w = let first = rw block at e in rw (first_defect-append, ← first, w)
 
-  pub alone_header : (i : ℕ) → b ≡ block_at f i → x ≡ first_defect (start_defects b i) → false ≡ is_wrong x → i ≡ 0
-      → {y : Defect} → y ≡ first_defect (padding_defects b i header_end) → y ≡ first_defect (read_defects f i)
+  pub alone_header : (i : ℕ) → b ≡ block_at f i → r ≡ first_defect (start_defects b i) → r ≡ Ok tt → i ≡ 0
+      → {s : Result ⊤ Defect} → s ≡ first_defect (padding_defects b i header_end) → s ≡ first_defect (read_defects f i)
   unfolding rest_defects
-  alone_header zero block e w z r = rw block at r ∙ sym (sound_start 0 block e w)
-  alone_header (suc i) block e w z r = absurd (omega arith)
+  alone_header zero block e w z d = rw block at d ∙ sym (sound_start 0 block e w)
+  alone_header (suc i) block e w z d = absurd (omega arith)
 
-  pub alone_layout : (i : ℕ) → b ≡ block_at f i → x ≡ first_defect (start_defects b i) → false ≡ is_wrong x → (i ≡ 0 → ⊥)
-      → {t : Bool} {y : Defect} → t ≡ wrong_count f i → y ≡ first_defect (layout_defects b i t) → y ≡ first_defect (read_defects f i)
+  pub alone_layout : (i : ℕ) → b ≡ block_at f i → r ≡ first_defect (start_defects b i) → r ≡ Ok tt → (i ≡ 0 → ⊥)
+      → {t : Bool} {s : Result ⊤ Defect} → t ≡ wrong_count f i → s ≡ first_defect (layout_defects b i t) → s ≡ first_defect (read_defects f i)
   unfolding rest_defects
-  alone_layout zero block e w z c r = absurd (z refl)
-  alone_layout (suc i) block e w z c r = rw (c, block) at r ∙ sym (sound_start (suc i) block e w)
+  alone_layout zero block e w z c d = absurd (z refl)
+  alone_layout (suc i) block e w z c d = rw (c, block) at d ∙ sym (sound_start (suc i) block e w)
 
 module _ (f : List ℕ) (i : ℕ) where
   pub read_length : true ≡ not_in_file f i → refusal BadLength ≡ (block_call f i).answer
   unfolding block_call read_causes refusing first_fault
   read_length h = rw (← h)
 
-  pub read_answer : false ≡ not_in_file f i → {x : Defect} → x ≡ first_defect (read_defects f i) → outcome_answer (outcome_by (defect_fault x)) ≡ (block_call f i).answer
+  pub read_answer : false ≡ not_in_file f i → {r : Result ⊤ Defect} → r ≡ first_defect (read_defects f i)
+      → outcome_answer (outcome_of r) ≡ (block_call f i).answer
   unfolding block_call read_causes refusing first_fault
   read_answer h e = rw (← h) (answer-first f (read_defects f i) e)
 
@@ -95,11 +69,11 @@ module _ (f : List ℕ) (i : ℕ) where
   unfolding not_in_file
   length_in h = leb-false (blocks_in f) i ((or_false_iff (wrong_block_count f) (leb (blocks_in f) i)).0 (sym h)).1
 
-no_fault : (f : List ℕ) (i : ℕ) → accepted [] ≡ (block_call f i).answer → first_fault (read_causes f i) ≡ none
+no_fault : (f : List ℕ) (i : ℕ) → accepted [] ≡ (block_call f i).answer → first_fault (read_causes f i) ≡ None
 unfolding block_call
 no_fault f i e = judging-accepted f (read_causes f i) (sym e)
 
-present_of : (f : List ℕ) (i : ℕ) → first_fault (read_causes f i) ≡ none → not_in_file f i ≡ false
+present_of : (f : List ℕ) (i : ℕ) → first_fault (read_causes f i) ≡ None → not_in_file f i ≡ false
 unfolding read_causes
 present_of f i e = (causes_absent _ _ e).0
 
@@ -113,13 +87,13 @@ few true n e =
 few false n e = let same = eqb-true n records_per_block (not-false (eqb n records_per_block) e) in (omega arith, omega arith)
 
 -- an accepted block behind block 0 has 1 to 31 records
-counted : (f : List ℕ) (i : ℕ) → first_fault (read_causes f (suc i)) ≡ none
+counted : (f : List ℕ) (i : ℕ) → first_fault (read_causes f (suc i)) ≡ None
     → (1 ≤ count_of (block_at f (suc i))) × (count_of (block_at f (suc i)) ≤ records_per_block)
 unfolding read_causes rest_defects wrong_count
 counted f i e =
     let b = block_at f (suc i) in
     let clear = ((clear_append (start_defects b (suc i)) (rest_defects f (suc i))).0 (causes_absent _ _ e).1).1 in
-    few (eqb (suc (suc i)) (blocks_in f)) (count_of b) (clear_parts _ _ clear refl).0
+    few (eqb (suc (suc i)) (blocks_in f)) (count_of b) (clear_parts _ _ clear).0
 
 pub done_count : (f : List ℕ) (i : ℕ) → accepted [] ≡ (block_call f i).answer → (i ≡ 0 → ⊥) → count_of (block_at f i) ≤ records_per_block
 done_count f zero e h = absurd (h refl)
@@ -136,15 +110,15 @@ pub part_cases : (f : List ℕ) (i : ℕ) → (part_at f i ≡ empty_part) ⊎ R
 part_cases f zero = inl (go (first_fault (read_causes f 0)) refl)
   where
     go : (o : Option Fault) → first_fault (read_causes f 0) ≡ o → part_at f 0 ≡ empty_part
-    go none e = rw e
-    go (some fault) e = rw e
+    go None e = rw e
+    go (Some fault) e = rw e
 part_cases f (suc i) = go (first_fault (read_causes f (suc i))) refl
   where
     go : (o : Option Fault) → first_fault (read_causes f (suc i)) ≡ o → (part_at f (suc i) ≡ empty_part) ⊎ RecordsAt f (suc i)
-    go none e =
+    go None e =
         let n = counted f i e in
         inr (record { part = rw e; present = present_of f (suc i) e; some = n.0; few = n.1 })
-    go (some fault) e = inl (rw e)
+    go (Some fault) e = inl (rw e)
 
 -- a slice that begins so many bytes behind the start of another, in its memory, and has the bytes there
 pub occupies : {p : Part} {whole part : Bor (List ℕ)} → part.ref_ptr.0 ≡ whole.ref_ptr.0 → part.ref_ptr.1 ≡ whole.ref_ptr.1 + p.from

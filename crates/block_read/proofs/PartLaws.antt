@@ -9,7 +9,7 @@ use mathlib.Core.Logic.{◌≢◌}
 use mathlib.Core.Path.{◌≡◌, refl, sym, ap, ◌∙◌}
 use mathlib.Core.Bool.{false}
 use mathlib.Core.List.{List, [], flat_map}
-use mathlib.Core.Option.{Option, none, some}
+use Rattle.std.proofs.Common.{Option, None, Some}
 use native.Mathlib.Omega.{arith}
 use native.Mathlib.Decide.{ℕ_discrete}
 use borrow.Author.Tests.{le-leb, lt-leb, eq-eqb, ne_eqb}
@@ -63,7 +63,7 @@ module _ (f : List ℕ) (p : Passes f) where
   rest_clear zero h = clear_cons _ _ p.header.fill clear_nil
   rest_clear (suc i) h = clear_cons _ _ (wrong_count-passes i h) (clear_cons _ _ (p.layouts i h).fill clear_nil)
 
-  pub passes-read : (i : ℕ) → i < blocks_in f → first_fault (read_causes f i) ≡ none
+  pub passes-read : (i : ℕ) → i < blocks_in f → first_fault (read_causes f i) ≡ None
   unfolding read_causes not_in_file first_fault
   passes-read i h =
       rw ((wrong_block_count_iff f).1 p.whole, lt-leb (blocks_in f) i h)
@@ -84,10 +84,10 @@ module _ (f : List ℕ) (p : Passes f) where
       ∙ records_joined b (length_block_at f (suc i) h) (bytes_at_below byte_values f (block_bytes * suc i) block_bytes below) n (omega arith) kinds
       ∙ ap (flat_map encode_record) (sym (chunk-grants_in f i (omega (arith, p.header.blocks)))))
 
-pub part-refusal : (f : List ℕ) (i : ℕ) → first_fault (read_causes f i) ≢ none → part_of f i ≡ []
+pub part-refusal : (f : List ℕ) (i : ℕ) → first_fault (read_causes f i) ≢ None → part_of f i ≡ []
 unfolding part_of
 part-refusal f i refused = go (first_fault (read_causes f i)) refl
   where
     go : (o : Option Fault) → first_fault (read_causes f i) ≡ o → part_of f i ≡ []
-    go none e = absurd (refused e)
-    go (some fault) e = rw e
+    go None e = absurd (refused e)
+    go (Some fault) e = rw e

@@ -9,8 +9,7 @@
 --   part_of f i          its bytes
 --   Occupies p w s      the slice s is that part of the slice w: it lies in the same memory, so many bytes from its start, and is as long
 -- Assumes nothing: these are definitions.
-use Rattle.std.specs.Prelude.{ℕ, zero, suc, ◌+◌, ◌*◌, ◌≡◌, Bool, not, cond, ◌&&◌, ◌||◌, List, [], ◌∷◌, ◌++◌, leb, eqb, length}
-use Rattle.std.proofs.Math.Option.{Option, none, some}
+use Rattle.std.specs.Prelude.{ℕ, zero, suc, ◌+◌, ◌*◌, ◌≡◌, Bool, not, cond, ◌&&◌, ◌||◌, List, ◌∷◌, ◌++◌, leb, eqb, length, Option, None, Some}
 use Rattle.std.specs.Borrow.{Bor}
 use Rattle.model.specs.declared.Fault.{Fault}
 use Rattle.model.specs.declared.Fault.TheVariants.{BadLength}
@@ -56,9 +55,9 @@ abbrev pub records_part : List ℕ → ℕ → Part
 records_part f i = record { from = block_bytes * i + records_place; size = record_bytes * count_of (block_at f i) }
 
 abbrev part_by : List ℕ → ℕ → Option Fault → Part
-part_by f zero none = empty_part
-part_by f (suc i) none = records_part f (suc i)
-part_by f i (some fault) = empty_part
+part_by f zero None = empty_part
+part_by f (suc i) None = records_part f (suc i)
+part_by f i (Some fault) = empty_part
 
 abbrev pub part_at : List ℕ → ℕ → Part
 part_at f i = part_by f i (first_fault (read_causes f i))

@@ -9,7 +9,6 @@ use crate::verdict::block_verdict;
 use grants_file::block::count_of;
 use grants_file::file::block_at;
 use grants_file::layout::{BLOCK_BYTES, RECORD_BYTES, RECORDS_PLACE};
-use model::Outcome;
 
 // The part of the file that a block's records occupy.
 fn records_part(file: &[u8], number: usize) -> &[u8]
@@ -26,12 +25,11 @@ fn records_part(file: &[u8], number: usize) -> &[u8]
 pub fn block_part(file: &[u8], block: u64) -> &[u8]
     ensures { Occupies (part_at file.now block) file.entry result }
 {
-    let verdict = block_verdict(file, block);
-    let Outcome::Done = verdict else {
-        return &file[0..0];
+    let Ok(()) = block_verdict(file, block) else {
+        return &file[..0];
     };
     if block == 0 {
-        return &file[0..0];
+        return &file[..0];
     }
     records_part(file, block as usize)
 }

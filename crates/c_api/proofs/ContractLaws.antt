@@ -1,34 +1,19 @@
--- A C call's contract, from what the entry points and the packing ensure.
---   packs_pool, packs_lent, packs_out a call's answer, packed, with what it leaves
+-- The packed part of a block.
 --   place_modulo                      where a block's records start, modulo what b holds, from the block's number modulo the same
 --   part_none, part-some              the packed part of a block: empty, or not
 -- Assumes nothing.
 use Prim.Native.Nat.{ℕ, ◌+◌, ◌*◌, ◌%◌}
 use mathlib.Core.Logic.{◌⊎◌, inl, inr}
-use mathlib.Core.Path.{◌≡◌, ap, subst, ◌∙◌}
+use mathlib.Core.Path.{◌≡◌, ap, ◌∙◌}
 use mathlib.Core.List.{List}
 use native.Mathlib.Omega.{arith}
 use lib.ListN.{length}
 use denote.Ref.{Bor}
-use Rattle.model.specs.Answer.{Answer}
-use Rattle.model.specs.Refusal.{Step}
 use Rattle.grants_file.specs.Layout.{block_bytes, records_place}
 use Rattle.block_read.specs.BlockRead.{Part, empty_part, part_at, Occupies}
 use Rattle.block_read.proofs.BlockReadSteps.{RecordsAt, part_cases}
-use Rattle.calls.specs.Contract.{Leaves, Lends}
-use Rattle.packing.specs.Pack.{b_values, word, pack}
-use Rattle.packing.specs.Decision.{PacksOut}
-use Rattle.c_api.specs.Contract.{PacksPool, PacksLent, pack_part}
-
-module _ {a : Answer} {r : ℕ} {memory : List ℕ} {s : Step (List ℕ)} where
-  pub packs_pool : r ≡ pack a → Leaves a memory s → PacksPool r memory s
-  packs_pool p d = record { answered = p ∙ ap pack d.answered; left = d.left }
-
-  pub packs_lent : (packing : Answer → ℕ) → r ≡ packing a → Lends a memory s → PacksLent packing r memory s
-  packs_lent packing p d = record { answered = p ∙ ap packing d.answered; left = d.left }
-
-pub packs_out : {a b : Answer} {r : ℕ} {out before : List ℕ} → a ≡ b → PacksOut r out before a → PacksOut r out before b
-packs_out e p = subst (PacksOut _ _ _) e p
+use Rattle.packing.specs.Pack.{b_values, word}
+use Rattle.c_api.specs.Contract.{pack_part}
 
 pub place_modulo : (i : ℕ) → (block_bytes * (i % b_values) + records_place) % b_values ≡ (block_bytes * i + records_place) % b_values
 place_modulo i = omega arith

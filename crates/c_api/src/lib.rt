@@ -30,6 +30,27 @@ use packing::{
 use queries::count::count;
 use queries::decide::decide;
 
+// The box of six arguments.
+fn box_of(
+    staff_from: u16,
+    staff_to: u16,
+    door_from: u16,
+    door_to: u16,
+    quarter_from: u16,
+    quarter_to: u16,
+) -> Box
+    ensures { result ≡ box_of staff_from staff_to door_from door_to quarter_from quarter_to }
+{
+    Box {
+        staff_from,
+        staff_to,
+        door_from,
+        door_to,
+        quarter_from,
+        quarter_to,
+    }
+}
+
 // Refuses 1.
 pub fn lg_start(pool: &mut [u16]) -> u64
     ensures { PacksPool result pool.new (start_call pool.old) }
@@ -53,14 +74,14 @@ pub fn lg_grant(
     ensures { PacksPool result pool.new
         (grant_call pool.old (request number rank kind (box_of staff_from staff_to door_from door_to quarter_from quarter_to))) }
 {
-    let bounds = Box {
+    let bounds = box_of(
         staff_from,
         staff_to,
         door_from,
         door_to,
         quarter_from,
         quarter_to,
-    };
+    );
     pack_outcome(grant(pool, number, rank, kind, bounds))
 }
 
@@ -85,18 +106,18 @@ pub fn lg_list(
     ensures { PacksLent pack result list.new
         (list_call pool.now (box_of staff_from staff_to door_from door_to quarter_from quarter_to) Touching list.old) }
 {
-    let bounds = Box {
+    let bounds = box_of(
         staff_from,
         staff_to,
         door_from,
         door_to,
         quarter_from,
         quarter_to,
-    };
+    );
     pack_listed(queries::list::list(pool, bounds, Choice::Touching, list))
 }
 
-// Lists the grants that hold the box. Refuses 1, 2, 9 and 8, in this order. Elements past the numbers stay.
+// Lists the grants that hold the box, in C a function of its own. Refuses 1, 2, 9 and 8, in this order. Elements past the numbers stay.
 pub fn lg_list_holding(
     pool: &[u16],
     staff_from: u16,
@@ -110,14 +131,14 @@ pub fn lg_list_holding(
     ensures { PacksLent pack result list.new
         (list_call pool.now (box_of staff_from staff_to door_from door_to quarter_from quarter_to) Holding list.old) }
 {
-    let bounds = Box {
+    let bounds = box_of(
         staff_from,
         staff_to,
         door_from,
         door_to,
         quarter_from,
         quarter_to,
-    };
+    );
     pack_listed(queries::list::list(pool, bounds, Choice::Holding, list))
 }
 
@@ -169,13 +190,12 @@ pub fn lg_block_part(file: &[u8], block: u64) -> u64
     ensures { result ≡ pack_part file.now block }
 {
     let part = block_part(file, block);
-    let size = part.len();
-    if size == 0 {
+    if part.is_empty() {
         return word(0, 0, 0);
     }
     // A block number past what `b` holds is in no file; its remainder keeps the product in range.
     let start = BLOCK_BYTES as u64 * (block % B_VALUES) + RECORDS_PLACE as u64;
-    word(0, size as u64, start)
+    word(0, part.len() as u64, start)
 }
 
 // Refuses 24, tested on both records, and then 25.

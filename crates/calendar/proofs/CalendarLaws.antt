@@ -1,20 +1,20 @@
 -- Laws of the calendar (specs/Calendar).
---   next-year               a day on, the year has grown by at most one
---   after_turn, after-end   a day more, and no day more, as a loop counts them down
+--   next_day_year           a day on, the year has grown by at most one
+--   after_snoc         the day after so many days is the day after one more
+--   after_year         in so many days, the year grows by at most as many
 --   IsDate d, is_date_iff    what `is_date` tests, in plain words
 --   next_date               the day after a date is a date, but for the end of the last year
 --   two_digits_low, two_digits_high    two digits are a number's numeral, after a 0 where that is one digit
 -- Assumes nothing.
-use Prim.Native.Nat.{ℕ, zero, suc, ◌+◌, ◌-◌, ◌/◌, ◌%◌, ◌<◌, ◌≤◌}
-use mathlib.Core.Path.{◌≡◌, refl, sym, ap, ◌∙◌}
+use Prim.Native.Nat.{ℕ, zero, suc, ◌+◌, ◌/◌, ◌%◌, ◌<◌, ◌≤◌}
+use mathlib.Core.Path.{◌≡◌, refl}
 use mathlib.Core.Logic.{◌↔◌}
 use mathlib.Core.Bool.{Bool, true, false, cond, ◌&&◌, ◌||◌, and-eq-true_iff}
 use mathlib.Core.List.{◌∷◌}
-use native.Mathlib.Numerals.{sub-one}
+use native.Mathlib.Nat.{suc-add}
 use native.Mathlib.Omega.{arith}
 use borrow.Author.Tests.{leb-true, le-leb, ltb-true}
 use lib.Dec.{leb, ltb, eqb}
-use Rattle.model.specs.Values.{word_values}
 use Rattle.text.specs.Decimal.{zero_digit}
 use Rattle.text.specs.Numeral.{numeral}
 use Rattle.text.proofs.NumeralLaws.{numeral-digit, numeral_more}
@@ -22,9 +22,9 @@ use Rattle.calendar.specs.declared.Date.{Date}
 use Rattle.calendar.specs.Calendar.{last_year, leap_year, month_days, is_date, next_day, date_after}
 use Rattle.calendar.specs.Moment.{two_digits}
 
-next_day-year : (d : Date) → (next_day d).year ≤ d.year + 1
+pub next_day_year : (d : Date) → (next_day d).year ≤ d.year + 1
 unfolding next_day
-next_day-year d = go (ltb d.day (month_days d.year d.month)) (ltb d.month 12)
+next_day_year d = go (ltb d.day (month_days d.year d.month)) (ltb d.month 12)
   where
     go : (a b : Bool)
         → (cond {A = Date} a (record { year = d.year; month = d.month; day = d.day + 1 })
@@ -33,21 +33,15 @@ next_day-year d = go (ltb d.day (month_days d.year d.month)) (ltb d.month 12)
     go false true = omega arith
     go false false = omega arith
 
-pub next-year : (d : Date) (left : ℕ) {e : Date} → 0 < left → d.year + left < word_values → e ≡ next_day d → e.year + (left - 1) < word_values
-next-year d left more fits q = omega (arith, next_day-year d, ap (λ (x : Date). x.year) q)
-
-after_step : (d : Date) (left : ℕ) → 0 < left → date_after d left ≡ date_after (next_day d) (left - 1)
+pub after_snoc : (d : Date) (n : ℕ) → date_after d (n + 1) ≡ next_day (date_after d n)
 unfolding date_after
-after_step d zero more = absurd (omega arith)
-after_step d (suc n) more = rw (sub-one (suc n))
+after_snoc d zero = refl
+after_snoc d (suc n) = rw (suc-add n 1) (after_snoc (next_day d) n)
 
-pub after_turn : (d : Date) (left : ℕ) {e all : Date} → 0 < left → e ≡ next_day d → date_after d left ≡ all → date_after e (left - 1) ≡ all
-after_turn d left more q before = rw q (sym (after_step d left more) ∙ before)
-
-pub after-end : (d : Date) (left : ℕ) {all : Date} → left ≤ 0 → date_after d left ≡ all → d ≡ all
+pub after_year : (d : Date) (n : ℕ) → (date_after d n).year ≤ d.year + n
 unfolding date_after
-after-end d zero end before = before
-after-end d (suc n) end before = absurd (omega arith)
+after_year d zero = omega arith
+after_year d (suc n) = omega (arith, after_year (next_day d) n, next_day_year d)
 
 pub record IsDate (d : Date) : Type 0 where
   pub year-low : 1 ≤ d.year

@@ -2,16 +2,13 @@
 --   two_digits n           the last two digits of a number
 --   date_text d, time_text q, moment_text base q
 --   date_bytes, time_bytes, moment_bytes     their lengths
---   MomentFits n out at base q    what putting it goes by: n bytes of room at a place of a line, a base day of a year up to last_year, and
---                                 a quarter, or the one past the last
 -- Assumes nothing: these are definitions.
-use Rattle.std.specs.Prelude.{ℕ, ◌+◌, ◌/◌, ◌%◌, ◌≤◌, List, [], ◌∷◌, ◌++◌, length}
+use Rattle.std.specs.Prelude.{ℕ, ◌/◌, ◌%◌, List, [], ◌∷◌, ◌++◌}
 use Prim.Native.Char.{code}
-use Rattle.model.specs.Values.{word_values}
 use Rattle.text.specs.Ascii.{blank}
 use Rattle.text.specs.Numeral.{digit}
 use Rattle.calendar.specs.declared.Date.{Date}
-use Rattle.calendar.specs.Calendar.{last_year, date_after, day_of, hour_of, minute_of}
+use Rattle.calendar.specs.Calendar.{date_after, day_of, hour_of, minute_of}
 
 abbrev pub two_digits : ℕ → List ℕ
 two_digits n = digit (n / 10 % 10) ∷ digit (n % 10) ∷ []
@@ -39,8 +36,3 @@ time_bytes = 5
 
 abbrev pub moment_bytes : ℕ
 moment_bytes = 16
-
-pub record MomentFits (n : ℕ) (out : List ℕ) (at : ℕ) (base : Date) (q : ℕ) : Type 0 where
-  pub room : at + n ≤ length out
-  pub year : base.year ≤ last_year
-  pub quarter : q ≤ word_values

@@ -3,23 +3,22 @@
 --   moment_note base q   the day and time at which a quarter starts, to stand behind its number; nothing where no base day is shown
 --   note_bytes           the length of one that is there
 -- Assumes nothing: these are definitions.
-use Rattle.std.specs.Prelude.{ℕ, cond, List, [], ◌++◌, leb}
+use Rattle.std.specs.Prelude.{ℕ, cond, List, [], ◌++◌, leb, Option, None, Some}
 use Rattle.text.specs.Ascii.{ascii}
-use Rattle.calendar.specs.declared.Base.{Base}
-use Rattle.calendar.specs.declared.Base.TheVariants.{Unknown, Day}
+use Rattle.calendar.specs.declared.Date.{Date}
 use Rattle.calendar.specs.Calendar.{last_year}
 use Rattle.calendar.specs.Moment.{moment_text}
 
-unfoldable pub shown_base : Base → Base
-shown_base Unknown = Unknown
-shown_base (Day d) = cond (leb d.year last_year) (Day d) Unknown
+unfoldable pub shown_base : Option Date → Option Date
+shown_base None = None
+shown_base (Some d) = cond (leb d.year last_year) (Some d) None
 
 -- once it is known which base day is shown
-abbrev pub note_after : Base → ℕ → List ℕ
-note_after Unknown q = []
-note_after (Day d) q = ascii " (" ++ moment_text d q ++ ascii ")"
+abbrev pub note_after : Option Date → ℕ → List ℕ
+note_after None q = []
+note_after (Some d) q = ascii " (" ++ moment_text d q ++ ascii ")"
 
-abbrev pub moment_note : Base → ℕ → List ℕ
+abbrev pub moment_note : Option Date → ℕ → List ℕ
 moment_note base q = note_after (shown_base base) q
 
 abbrev pub note_bytes : ℕ

@@ -6,80 +6,54 @@ ghost use Rattle.calendar.specs.Calendar.{leap_year, month_days, is_date, is_bas
 
 use crate::Date;
 
+#[tactic(auto, unfolding(crate::specs::Calendar::leap_year))]
 fn is_leap(year: u16) -> bool
     ensures { result ≡ leap_year year }
 {
-    if year % 4 != 0 {
-        return false;
-    }
-    if year % 100 != 0 {
-        return true;
-    }
-    year % 400 == 0
+    year % 4 == 0 && (year % 100 != 0 || year % 400 == 0)
 }
 
+#[tactic(auto, unfolding(crate::specs::Calendar::month_days))]
 fn month_days(year: u16, month: u8) -> u8
     ensures { result ≡ month_days year month }
 {
-    if month == 2 {
-        if is_leap(year) {
-            return 29;
-        }
-        return 28;
+    match month {
+        2 if is_leap(year) => 29,
+        2 => 28,
+        4 | 6 | 9 | 11 => 30,
+        _ => 31,
     }
-    if month == 4 {
-        return 30;
-    }
-    if month == 6 {
-        return 30;
-    }
-    if month == 9 {
-        return 30;
-    }
-    if month == 11 {
-        return 30;
-    }
-    31
 }
 
 // Whether these are a day of the years 1 to 9999.
+#[tactic(auto, unfolding(crate::specs::Calendar::is_date))]
 pub fn is_date(year: u16, month: u8, day: u8) -> bool
     ensures { result ≡ is_date year month day }
 {
-    if year < 1 {
-        return false;
-    }
-    if 9999 < year {
-        return false;
-    }
-    if month < 1 {
-        return false;
-    }
-    if 12 < month {
-        return false;
-    }
-    if day < 1 {
-        return false;
-    }
-    day <= month_days(year, month)
+    1 <= year
+        && year <= 9999
+        && 1 <= month
+        && month <= 12
+        && 1 <= day
+        && day <= month_days(year, month)
 }
 
+#[tactic(auto, unfolding(crate::specs::Calendar::next_day))]
 pub fn next_day(d: Date) -> Date
     requires { d.year + 1 < word_values }
     ensures { result ≡ next_day d }
 {
     if d.day < month_days(d.year, d.month) {
         return Date {
-            year: d.year,
-            month: d.month,
             day: d.day + 1,
+            ..d
         };
     }
     if d.month < 12 {
         return Date {
-            year: d.year,
             month: d.month + 1,
             day: 1,
+            ..d
         };
     }
     Date {
@@ -90,15 +64,14 @@ pub fn next_day(d: Date) -> Date
 }
 
 // The day that comes so many days after a base day: at most 682 for a quarter.
+#[tactic(auto, using(crate::proofs::CalendarLaws::after_snoc, crate::proofs::CalendarLaws::after_year), unfolding(crate::specs::Calendar::date_after))]
 pub fn date_after(base: Date, days: usize) -> Date
     requires { base.year + days < word_values }
     ensures { result ≡ date_after base days }
 {
     let mut date = base;
-    let mut left = days;
-    while 0 < left {
+    for _ in 0..days {
         date = next_day(date);
-        left -= 1;
     }
     date
 }
@@ -123,12 +96,9 @@ pub fn minute_of(quarter: usize) -> usize
 }
 
 // Whether quarters can be counted from a day: the last one ends in a year of four digits.
+#[tactic(auto, unfolding(crate::specs::Calendar::is_base))]
 pub fn is_base(d: Date) -> bool
     ensures { result ≡ is_base d }
 {
-    if 9999 < d.year {
-        return false;
-    }
-    let last = date_after(d, day_of(65536));
-    last.year <= 9999
+    d.year <= 9999 && date_after(d, day_of(65536)).year <= 9999
 }

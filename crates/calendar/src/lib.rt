@@ -7,16 +7,9 @@ pub mod moment;
 pub mod note;
 
 // A day of the Gregorian calendar.
-#[derive(Clone, Copy)]
+#[derive(Clone, Copy, PartialEq, Eq)]
 pub struct Date {
     pub year: u16,
     pub month: u8,
     pub day: u8,
-}
-
-// The operator's base day, from which quarters are counted, if it is known.
-#[derive(Clone, Copy)]
-pub enum Base {
-    Unknown,
-    Day(Date),
 }

@@ -1,48 +1,57 @@
-// Puts the day and time of a quarter as text, `YYYY-MM-DD HH:MM`, at a place of a line (specs/Moment), and answers the next place.
-ghost use Rattle.std.specs.Prelude.{◌+◌, ◌≤◌, length};
-ghost use Rattle.text.specs.Put.{Put};
-ghost use Rattle.calendar.specs.Moment.{two_digits, date_text, time_text, moment_text, moment_bytes, date_bytes, time_bytes, MomentFits};
+// The day and time of a quarter put as text, `YYYY-MM-DD HH:MM`, at the end of a line (specs/Moment).
+ghost use Rattle.std.specs.Prelude.{◌≡◌, ◌++◌, ◌+◌, ◌≤◌};
+ghost use Rattle.arrayvec.specs.ArrayVec.{array_vec_len};
+ghost use Rattle.model.specs.Values.{word_values};
+ghost use Rattle.calendar.specs.Calendar.{last_year};
+ghost use Rattle.calendar.specs.Moment.{two_digits, date_text, time_text, moment_text, moment_bytes, date_bytes, time_bytes};
 
 use crate::Date;
 use crate::days::{date_after, day_of, hour_of, minute_of};
+use arrayvec::ArrayVec;
 use text::put::put_byte;
 
 // The last two digits of a number.
-fn put_two(out: &mut [u8], at: usize, n: usize) -> usize
-    requires { at + 2 ≤ length out.old }
-    ensures { Put out.old at (two_digits n) result out.new }
+fn put_two<const N: usize>(line: &mut ArrayVec<u8, N>, n: usize)
+    requires { array_vec_len line.old + 2 ≤ N }
+    ensures items { line.new.items ≡ line.old.items ++ two_digits n }
+    ensures len { array_vec_len line.new ≡ array_vec_len line.old + 2 }
 {
-    let next = put_byte(out, at, b'0' + (n / 10 % 10) as u8);
-    put_byte(out, next, b'0' + (n % 10) as u8)
+    put_byte(line, b'0' + (n / 10 % 10) as u8);
+    put_byte(line, b'0' + (n % 10) as u8);
 }
 
-pub fn put_date(out: &mut [u8], at: usize, d: Date) -> usize
-    requires { at + date_bytes ≤ length out.old }
-    ensures { Put out.old at (date_text d) result out.new }
+pub fn put_date<const N: usize>(line: &mut ArrayVec<u8, N>, d: Date)
+    requires { array_vec_len line.old + date_bytes ≤ N }
+    ensures items { line.new.items ≡ line.old.items ++ date_text d }
+    ensures len { array_vec_len line.new ≡ array_vec_len line.old + date_bytes }
 {
-    let century = put_two(out, at, d.year as usize / 100);
-    let year = put_two(out, century, d.year as usize % 100);
-    let month = put_byte(out, year, b'-');
-    let day = put_two(out, month, d.month as usize);
-    let last = put_byte(out, day, b'-');
-    put_two(out, last, d.day as usize)
+    put_two(line, d.year as usize / 100);
+    put_two(line, d.year as usize % 100);
+    put_byte(line, b'-');
+    put_two(line, d.month as usize);
+    put_byte(line, b'-');
+    put_two(line, d.day as usize);
 }
 
-pub fn put_time(out: &mut [u8], at: usize, quarter: usize) -> usize
-    requires { at + time_bytes ≤ length out.old }
-    ensures { Put out.old at (time_text quarter) result out.new }
+pub fn put_time<const N: usize>(line: &mut ArrayVec<u8, N>, quarter: usize)
+    requires { array_vec_len line.old + time_bytes ≤ N }
+    ensures items { line.new.items ≡ line.old.items ++ time_text quarter }
+    ensures len { array_vec_len line.new ≡ array_vec_len line.old + time_bytes }
 {
-    let colon = put_two(out, at, hour_of(quarter));
-    let minute = put_byte(out, colon, b':');
-    put_two(out, minute, minute_of(quarter))
+    put_two(line, hour_of(quarter));
+    put_byte(line, b':');
+    put_two(line, minute_of(quarter));
 }
 
 // The day and time at which a quarter starts that is counted from a base day; the one past the last is where the last ends.
-pub fn put_moment(out: &mut [u8], at: usize, base: Date, quarter: usize) -> usize
-    requires { MomentFits moment_bytes out.old at base quarter }
-    ensures { Put out.old at (moment_text base quarter) result out.new }
+pub fn put_moment<const N: usize>(line: &mut ArrayVec<u8, N>, base: Date, quarter: usize)
+    requires room { array_vec_len line.old + moment_bytes ≤ N }
+    requires year { base.year ≤ last_year }
+    requires quarter { quarter ≤ word_values }
+    ensures items { line.new.items ≡ line.old.items ++ moment_text base quarter }
+    ensures len { array_vec_len line.new ≡ array_vec_len line.old + moment_bytes }
 {
-    let gap = put_date(out, at, date_after(base, day_of(quarter)));
-    let time = put_byte(out, gap, b' ');
-    put_time(out, time, quarter)
+    put_date(line, date_after(base, day_of(quarter)));
+    put_byte(line, b' ');
+    put_time(line, quarter);
 }

@@ -5,7 +5,7 @@
 use Prim.Native.Nat.{ℕ}
 use mathlib.Core.Path.{◌≡◌, sym, subst, ◌∙◌}
 use mathlib.Core.List.{List, []}
-use mathlib.Core.Option.{none}
+use Rattle.std.proofs.Common.{None}
 use Rattle.model.specs.declared.Grant.{Grant}
 use Rattle.model.specs.Answer.{accepted}
 use Rattle.model.specs.Refusal.{first_fault, refusing}
@@ -29,7 +29,7 @@ module _ {w : List ℕ} {b : Book} (h : Represents w b) where
   pub grant-takes : (r : Request) → RequestFits r → (grant_call w r).answer ≡ accepted [] → TakesFreeHead w (grant_call w r).state (requested r)
   unfolding grant_call refusing
   grant-takes r fits taken =
-      let line : first_fault (grant_line w r) ≡ none = accepted-none _ w [] _ [] taken in
+      let line : first_fault (grant_line w r) ≡ None = accepted-none _ w [] _ [] taken in
       let i = grant_inserts h r fits (sym (grant-order h r fits) ∙ line) in
       rw (line, i.way) (insert-takes i.linked i.done)
 
@@ -43,7 +43,7 @@ module _ {w : List ℕ} {b : Book} (h : Represents w b) where
       → BecomesFreeHead w (revoke_call w n).state (node_at w p)
   unfolding revoke_call refusing
   revoke_frees n g p taken carried number =
-      let line : first_fault (revoke_line w n) ≡ none = accepted-none _ w [] _ [] taken in
+      let line : first_fault (revoke_line w n) ≡ None = accepted-none _ w [] _ [] taken in
       let r = revoke_removes h n (sym (revoke-order h n) ∙ line) in
       let cell = carried-cell h carried r.found.cell (hangs_cell r.found.hangs) (r.found.number ∙ sym number) in
       rw line (subst (BecomesFreeHead w _) (sym cell) (removal_frees n r))

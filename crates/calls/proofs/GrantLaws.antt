@@ -5,13 +5,13 @@
 --   insert_represents   the words with the grant added where its way leads
 --   grant_refines
 -- Assumes nothing.
-use Prim.Native.Nat.{ℕ, ◌+◌, ◌≤◌}
+use Prim.Native.Nat.{ℕ, ◌+◌}
 use mathlib.Core.Logic.{◌⊎◌, inl, inr}
 use mathlib.Core.Path.{◌≡◌, refl, sym, ap, subst, ◌∙◌}
 use mathlib.Core.Bool.{Bool, true, false, not, ◌&&◌, ◌||◌}
 use mathlib.Core.List.Memᴰ
 use mathlib.Core.List.{List, [], ◌∷◌, ◌++◌, Memᴰ}
-use mathlib.Core.Option.{none}
+use Rattle.std.proofs.Common.{None}
 use native.Mathlib.Omega.{arith}
 use lib.Dec.{eqb}
 use lib.ListN.{length}
@@ -128,7 +128,7 @@ module _ {w : List ℕ} {b : Book} (h : Represents w b) (r : Request) (fits : Re
     new : is_live b r.number ≡ false
     room : ¬ (length b.live ≡ b.capacity)
 
-  taken : first_fault causes ≡ none → Taken
+  taken : first_fault causes ≡ None → Taken
   taken e =
       let parts = append_absent (request_causes r) _ e in
       let new = causes_absent _ _ parts.1 in
@@ -139,7 +139,7 @@ module _ {w : List ℕ} {b : Book} (h : Represents w b) (r : Request) (fits : Re
         room = eqb-false (length b.live) b.capacity full.0;
       }
 
-  pub grant_inserts : first_fault causes ≡ none → Insertion h r
+  pub grant_inserts : first_fault causes ≡ None → Insertion h r
   grant_inserts e = go h.free h.linked (represents_count h) (request-leads (taken e).new) (taken e).room
     where
       go : (ks : List ℕ) → Linked w b.capacity h.tree ks → length b.live + length ks ≡ b.capacity → Leads w (point_of (requested r)) h.tree
@@ -156,7 +156,7 @@ module _ {w : List ℕ} {b : Book} (h : Represents w b) (r : Request) (fits : Re
             done = insert-keeps_linked linked request-fits request-inside leads.way;
           }
 
-  granted : first_fault causes ≡ none → Represents (granted_words w r (insertion_walk w r)) (with_live b (insert_by grant_number (requested r) b.live))
+  granted : first_fault causes ≡ None → Represents (granted_words w r (insertion_walk w r)) (with_live b (insert_by grant_number (requested r) b.live))
   granted e =
       let t = taken e in
       let i = grant_inserts e in

@@ -17,7 +17,7 @@ use mathlib.Core.Path.{◌≡◌, refl, sym, ap}
 use mathlib.Core.Bool.{Bool, true, false, cond}
 use mathlib.Core.List.Memᴰ
 use mathlib.Core.List.{List, [], ◌∷◌, ◌++◌, map, map-append, append-nil, Memᴰ}
-use mathlib.Core.Option.{none, some}
+use Rattle.std.proofs.Common.{None, Some}
 use native.Mathlib.Omega.{arith}
 use lib.Dec.{eqb}
 use lib.ListN.{length}
@@ -124,7 +124,7 @@ module _ {doors : Interval} {gs : List Grant} (s : FileSet doors gs) where
         rw (append-nil, sorted) at
         (grant_all_represents hs (represents_fresh_pool c z.some z.few) right apart (omega (arith, length_perm perm)))
 
-    load-order : first_fault (load_order memory (file_of doors gs)) ≡ none
+    load-order : first_fault (load_order memory (file_of doors gs)) ≡ None
     unfolding load_order first_fault
     load-order =
         rw (
@@ -160,7 +160,7 @@ module _ {c : ℕ} (memory f : List ℕ) (z : Sized memory c) (below : Below byt
           let room : length gs ≤ c = omega (arith, load_causes.1, ap total_in same, total_in-file_of doors gs) in
           rw (same, grants_in-file_of doors gs) (load_represents s memory z room)
 
-pub load-refuses : (w f : List ℕ) (fault : Fault) → first_fault (file_causes f) ≡ some fault
+pub load-refuses : (w f : List ℕ) (fault : Fault) → first_fault (file_causes f) ≡ Some fault
     → (load_call w f).answer ≡ cond (wrong_length w) (refusal BadPool) (refusal fault)
 unfolding load_call load_order
 load-refuses w f fault e = refusing-front _ (file_causes f) _ w [] _ fault e

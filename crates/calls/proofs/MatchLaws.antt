@@ -7,12 +7,12 @@
 --   match_refuses        match of a file that is refused
 -- Assumes nothing.
 use Prim.Native.Nat.{ℕ, min, ◌≤◌, ◌<◌}
-use mathlib.Core.Logic.{◌↔◌, ◌⊎◌, inl, inr, ◌≢◌}
+use mathlib.Core.Logic.{◌↔◌, inl, inr, ◌≢◌}
 use mathlib.Core.Path.{◌≡◌, refl, sym, ap, ap₂, subst, ◌∙◌}
 use mathlib.Core.Bool.{Bool, true, false, cond, false≢true}
 use mathlib.Core.List.Memᴰ
 use mathlib.Core.List.{List, [], ◌∷◌, Memᴰ}
-use mathlib.Core.Option.{none, some}
+use Rattle.std.proofs.Common.{Option, None, Some, Ok}
 use native.Mathlib.Omega.{arith}
 use native.Mathlib.Decide.{dec_lt}
 use Rattle.lists.specs.Tests.{filter}
@@ -20,8 +20,6 @@ use Rattle.lists.proofs.SortLaws.{Rises, rises_more, rises_filter}
 use Rattle.model.specs.declared.Fault.{Fault}
 use Rattle.model.specs.declared.Fault.TheVariants.{BadPool}
 use Rattle.model.specs.declared.Grant.{Grant}
-use Rattle.model.specs.declared.Matched.{Matched}
-use Rattle.model.specs.declared.Matched.TheVariants.{Equal, Differs}
 use Rattle.model.specs.Interval.{Interval}
 use Rattle.model.specs.Grant.{same_grant, touches}
 use Rattle.model.specs.Answer.{accepted, refusal, matched_answer}
@@ -45,9 +43,9 @@ use Rattle.calls.proofs.Represents.{grant_number, Represents, represents_pool, r
 use Rattle.calls.proofs.WriteLaws.{touching-found}
 
 -- r is the walk's answer; its first list is the pool's, and the differences are said of the file's first
-pub data Compared (hs gs : List Grant) : Matched → Type 0 where
-  compared_same : gs ≡ hs → Compared hs gs Equal
-  compared_differs : {n : ℕ} → LeastDifference n gs hs → Compared hs gs (Differs n)
+pub data Compared (hs gs : List Grant) : Option ℕ → Type 0 where
+  compared_same : gs ≡ hs → Compared hs gs None
+  compared_differs : {n : ℕ} → LeastDifference n gs hs → Compared hs gs (Some n)
 
 -- x is in the first list alone
 abbrev Alone : Grant → List Grant → List Grant → Type 0
@@ -101,7 +99,7 @@ module _ {g h : Grant} (same : h ≡ g) {gs hs : List Grant} (rg : Rises grant_n
       go (inl a) = inl (alone_less (sym same) d.grant a)
       go (inr a) = inr (alone_less same d.grant a)
 
-  compared_more : {r : Matched} → Compared hs gs r → Compared (h ∷ hs) (g ∷ gs) r
+  compared_more : {r : Option ℕ} → Compared hs gs r → Compared (h ∷ hs) (g ∷ gs) r
   compared_more (compared_same e) = compared_same (ap₂ ◌∷◌ (sym same) e)
   compared_more (compared_differs l) =
       compared_differs (record { differs = differs_more l.differs; least = λ m lt d. l.least m lt (differs_less d) })
@@ -134,7 +132,7 @@ first_difference_lem {hs = h ∷ hs} {gs = []} rh rg =
 first_difference_lem {hs = h ∷ hs} {gs = g ∷ gs} (rises_more f rh) (rises_more k rg) = go (same_grant h g) refl (first_difference_lem rh rg)
   where
     go : (b : Bool) → same_grant h g ≡ b → Compared hs gs (first_difference hs gs)
-        → Compared (h ∷ hs) (g ∷ gs) (cond b (first_difference hs gs) (Differs (min h.number g.number)))
+        → Compared (h ∷ hs) (g ∷ gs) (cond b (first_difference hs gs) (Some (min h.number g.number)))
     go true e rest = compared_more ((same_grant_iff h g).0 e) (rises_more k rg) (rises_more f rh) rest
     go false e rest = compared_differs (first-differs (λ q. false≢true (sym e ∙ (same_grant_iff h g).1 q)) (rises_more k rg) (rises_more f rh))
 
@@ -147,15 +145,15 @@ least_one {m} {n} k l = go (dec_lt m n) (dec_lt n m)
     go (no h) (no i) = omega arith
 
 module _ {hs gs : List Grant} where
-  pub same_iff : {r : Matched} → Compared hs gs r → (r ≡ Equal) ↔ ((g : Grant) → Memᴰ g gs ↔ Memᴰ g hs)
+  pub same_iff : {r : Option ℕ} → Compared hs gs r → (r ≡ None) ↔ ((g : Grant) → Memᴰ g gs ↔ Memᴰ g hs)
   same_iff (compared_same e) = (λ _. equal-same e, λ _. refl)
   same_iff (compared_differs l) = ((λ e. let z : ◌≡◌ {A = ℕ} 0 1 = cc in absurd (omega arith)), λ same. absurd (alone-differs l.differs.alone same))
 
-  pub least_iff : {r : Matched} → Compared hs gs r → (n : ℕ) → (r ≡ Differs n) ↔ LeastDifference n gs hs
+  pub least_iff : {r : Option ℕ} → Compared hs gs r → (n : ℕ) → (r ≡ Some n) ↔ LeastDifference n gs hs
   least_iff (compared_same e) n = ((λ q. let z : ◌≡◌ {A = ℕ} 0 1 = cc in absurd (omega arith)), λ l. absurd (alone-differs l.differs.alone (equal-same e)))
   least_iff (compared_differs {n = m} l) n = (
     (λ q. let e : m ≡ n = cc in subst (λ (k : ℕ). LeastDifference k gs hs) e l),
-    (λ k. ap Differs (least_one l k)),
+    (λ k. ap Some (least_one l k)),
   )
 
 module _ {w : List ℕ} {b : Book} (h : Represents w b) {doors : Interval} {gs : List Grant} (s : FileSet doors gs) where
@@ -163,13 +161,13 @@ module _ {w : List ℕ} {b : Book} (h : Represents w b) {doors : Interval} {gs :
   abbrev found : List Grant
   found = filter (touches doors) b.live
 
-  match_order_lem : first_fault (match_order w (file_of doors gs) (is_broken (door_search w doors))) ≡ none
+  match_order_lem : first_fault (match_order w (file_of doors gs) (is_broken (door_search w doors))) ≡ None
   unfolding match_order first_fault
   match_order_lem =
       let causes = file_causes (file_of doors gs) in
       rw (represents_pool h, first_fault-append causes _ ((none_of_iff causes).0 (file_of-accepted doors gs s)), (touching-found h doors).whole)
 
-  pub match_set : (match_call w (file_of doors gs)).answer ≡ matched_answer (first_difference found gs)
+  pub match_set : (match_call w (file_of doors gs)).answer ≡ matched_answer (Ok (first_difference found gs))
   unfolding match_call refusing
   match_set = rw (doors_in-file_of doors gs, match_order_lem, grants_in-file_of doors gs, (touching-found h doors).grants)
 
@@ -177,16 +175,19 @@ module _ {w : List ℕ} {b : Book} (h : Represents w b) {doors : Interval} {gs :
   compared = first_difference_lem (rises_filter grant_number (touches doors) (represents_rises h)) (set_rises s)
 
   -- an answer is that of one case alone
-  answer_iff : (r : Matched) → ((match_call w (file_of doors gs)).answer ≡ matched_answer r) ↔ (first_difference found gs ≡ r)
-  answer_iff r = ((λ e. matched_answer_injective (first_difference found gs) r (sym match_set ∙ e)), λ e. match_set ∙ ap matched_answer e)
+  answer_iff : (r : Option ℕ) → ((match_call w (file_of doors gs)).answer ≡ matched_answer (Ok r)) ↔ (first_difference found gs ≡ r)
+  answer_iff r = (
+    (λ e. let same = matched_answer_injective (Ok (first_difference found gs)) (Ok r) (sym match_set ∙ e) in cc),
+    (λ e. match_set ∙ ap (λ (o : Option ℕ). matched_answer (Ok o)) e),
+  )
 
   pub match_equal : ((match_call w (file_of doors gs)).answer ≡ accepted []) ↔ ((g : Grant) → Memᴰ g gs ↔ Memᴰ g found)
-  match_equal = ((λ e. (same_iff compared).0 ((answer_iff Equal).0 e)), λ same. (answer_iff Equal).1 ((same_iff compared).1 same))
+  match_equal = ((λ e. (same_iff compared).0 ((answer_iff None).0 e)), λ same. (answer_iff None).1 ((same_iff compared).1 same))
 
   pub match_differs : (n : ℕ) → ((match_call w (file_of doors gs)).answer ≡ accepted (n ∷ [])) ↔ LeastDifference n gs found
-  match_differs n = ((λ e. (least_iff compared n).0 ((answer_iff (Differs n)).0 e)), λ l. (answer_iff (Differs n)).1 ((least_iff compared n).1 l))
+  match_differs n = ((λ e. (least_iff compared n).0 ((answer_iff (Some n)).0 e)), λ l. (answer_iff (Some n)).1 ((least_iff compared n).1 l))
 
-pub match_refuses : (w f : List ℕ) (fault : Fault) → first_fault (file_causes f) ≡ some fault
+pub match_refuses : (w f : List ℕ) (fault : Fault) → first_fault (file_causes f) ≡ Some fault
     → (match_call w f).answer ≡ cond (wrong_pool w) (refusal BadPool) (refusal fault)
 unfolding match_call match_order
 match_refuses w f fault e = refusing-front _ (file_causes f) _ w [] _ fault e

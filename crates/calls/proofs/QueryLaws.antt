@@ -6,7 +6,7 @@ use Prim.Native.Nat.{ℕ, ◌+◌, ◌<◌}
 use mathlib.Core.Path.{◌≡◌, refl, sym, ap, ◌∙◌}
 use mathlib.Core.Bool.{Bool, true, false, cond}
 use mathlib.Core.List.{List, [], ◌∷◌, map}
-use mathlib.Core.Option.{none}
+use Rattle.std.proofs.Common.{None}
 use native.Mathlib.Omega.{arith}
 use lib.Dec.{ltb}
 use lib.ListN.{length, length-map}
@@ -57,7 +57,7 @@ list-order w q lent {broken} hits numbers pool whole long = rw pool (go (reverse
     go true whole long = refl
     go false whole long = rw (whole refl, long refl)
 
-look_order_lem : (w : List ℕ) {broken : Bool} → wrong_pool w ≡ false → broken ≡ false → first_fault (look_order w broken) ≡ none
+look_order_lem : (w : List ℕ) {broken : Bool} → wrong_pool w ≡ false → broken ≡ false → first_fault (look_order w broken) ≡ None
 unfolding look_order first_fault
 look_order_lem w pool whole = rw (pool, whole)
 

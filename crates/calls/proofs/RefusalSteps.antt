@@ -3,13 +3,15 @@
 --   first_holds, first_fails, none_left    the first cause of a line holds; it fails; no cause is left
 --   leaves_as, lends_as                    what a contract says, once the step is known
 --   Taken wrong w c                        a pool of c cells that the test `wrong` of fault 1 lets through
---   length-refused, length_taken           fault 1 of start and load, by `length_capacity`: 0, or the number of cells
+--   length-refused, length_taken           fault 1 of start and load, by `length_capacity`: none, or the number of cells
 --   pool_refused, pool_taken               fault 1 of the other calls, by `pool_capacity`
 -- Assumes nothing.
-use Prim.Native.Nat.{ℕ, ◌≤◌}
+use Prim.Native.Nat.{ℕ}
 use mathlib.Core.Path.{◌≡◌, refl, sym, ap, subst, ◌∙◌}
 use mathlib.Core.Bool.{Bool, true, false, cond}
 use mathlib.Core.List.{List, [], ◌∷◌}
+use Rattle.std.proofs.Common.{Option, None, Some}
+use Rattle.std.proofs.lemmas.Option.{same_Some}
 use native.Mathlib.Omega.{arith}
 use Rattle.model.specs.declared.Fault.{Fault}
 use Rattle.model.specs.Answer.{refusal}
@@ -62,24 +64,24 @@ module _ (w : List ℕ) where
   pool_length_lem : wrong_pool w ≡ false → wrong_length w ≡ false
   pool_length_lem r = let s = (wrong_pool_iff w).0 r in (wrong_length_iff w).1 (s.0, s.1)
 
-  -- whether the pool was refused, from the number that a program goes by
-  capacity_zero : (b : Bool) → (b ≡ false → 1 ≤ capacity_of w) → {c : ℕ} → c ≡ cond b 0 (capacity_of w) → c ≡ 0 → b ≡ true
-  capacity_zero true some e z = refl
-  capacity_zero false some e z = absurd (omega (arith, some refl))
+  -- whether the pool was refused, from what a program goes by
+  capacity_none : (b : Bool) {o : Option ℕ} → o ≡ cond b None (Some (capacity_of w)) → o ≡ None → b ≡ true
+  capacity_none true e n = refl
+  capacity_none false e n = let z : ◌≡◌ {A = ℕ} 0 1 = cc in absurd (omega arith)
 
-  capacity-some : (b : Bool) {c : ℕ} → c ≡ cond b 0 (capacity_of w) → ¬ (c ≡ 0) → (b ≡ false) × (capacity_of w ≡ c)
-  capacity-some true e n = absurd (n e)
-  capacity-some false e n = (refl, sym e)
+  capacity-some : (b : Bool) {o : Option ℕ} {c : ℕ} → o ≡ cond b None (Some (capacity_of w)) → o ≡ Some c → (b ≡ false) × (capacity_of w ≡ c)
+  capacity-some true e s = let z : ◌≡◌ {A = ℕ} 0 1 = cc in absurd (omega arith)
+  capacity-some false {c = c} e s = (refl, same_Some (capacity_of w) c (sym e ∙ s))
 
-  module _ {c : ℕ} where
-    pub length-refused : c ≡ length_capacity w → c ≡ 0 → wrong_length w ≡ true
-    length-refused e z = capacity_zero (wrong_length w) (λ r. (taken r r refl).sized.some) e z
+  module _ {o : Option ℕ} where
+    pub length-refused : o ≡ length_capacity w → o ≡ None → wrong_length w ≡ true
+    length-refused e n = capacity_none (wrong_length w) e n
 
-    pub length_taken : c ≡ length_capacity w → ¬ (c ≡ 0) → Taken (wrong_length w) w c
-    length_taken e n = let r = capacity-some (wrong_length w) e n in taken r.0 r.0 r.1
+    pub length_taken : {c : ℕ} → o ≡ length_capacity w → o ≡ Some c → Taken (wrong_length w) w c
+    length_taken e s = let r = capacity-some (wrong_length w) e s in taken r.0 r.0 r.1
 
-    pub pool_refused : c ≡ pool_capacity w → c ≡ 0 → wrong_pool w ≡ true
-    pool_refused e z = capacity_zero (wrong_pool w) (λ r. (taken r (pool_length_lem r) refl).sized.some) e z
+    pub pool_refused : o ≡ pool_capacity w → o ≡ None → wrong_pool w ≡ true
+    pool_refused e n = capacity_none (wrong_pool w) e n
 
-    pub pool_taken : c ≡ pool_capacity w → ¬ (c ≡ 0) → Taken (wrong_pool w) w c
-    pool_taken e n = let r = capacity-some (wrong_pool w) e n in taken r.0 (pool_length_lem r.0) r.1
+    pub pool_taken : {c : ℕ} → o ≡ pool_capacity w → o ≡ Some c → Taken (wrong_pool w) w c
+    pool_taken e s = let r = capacity-some (wrong_pool w) e s in taken r.0 (pool_length_lem r.0) r.1

@@ -11,7 +11,7 @@ use Prim.Native.Nat.{ℕ, suc}
 use mathlib.Core.Path.{◌≡◌, refl, sym, ap, subst, ◌∙◌}
 use mathlib.Core.Bool.{Bool, true, false, not, ◌&&◌, false≢true}
 use mathlib.Core.List.{List, [], ◌∷◌, Memᴰ}
-use mathlib.Core.Option.{none}
+use Rattle.std.proofs.Common.{None}
 use lib.Dec.{eqb}
 use borrow.Author.Tests.{eqb-true, not-false}
 use Rattle.lists.specs.Tests.{filter}
@@ -132,7 +132,7 @@ module _ {w : List ℕ} {b : Book} (h : Represents w b) (n : ℕ) where
   unfolding revoke_order first_fault
   revoke-order = rw (represents_pool h, revoke-whole, number_live-is_live h n)
 
-  pub revoke_removes : first_fault causes ≡ none → Removal h n
+  pub revoke_removes : first_fault causes ≡ None → Removal h n
   revoke_removes e =
       let live = causes_absent _ _ (causes_absent _ _ e).1 in
       let found = first_found (not-false (is_live b n) live.0) in
@@ -145,7 +145,7 @@ module _ {w : List ℕ} {b : Book} (h : Represents w b) (n : ℕ) where
         done = remove-keeps_linked h.linked found.hangs (rw (found.first, found.place) at ends);
       }
 
-  revoked : first_fault causes ≡ none
+  revoked : first_fault causes ≡ None
       → Represents (revoked_words w (first_hit (number_search w n)) (first_spot_of (number_search w n)).link (removal_of w (number_search w n)))
       (with_live b (filter (λ g. not (eqb g.number n)) b.live))
   revoked e =

@@ -6,13 +6,14 @@ use Prim.Native.Nat.{ℕ, min}
 use mathlib.Core.Path.{◌≡◌, refl, ap, ◌∙◌}
 use mathlib.Core.Bool.{Bool, true, false, cond}
 use mathlib.Core.List.{List, [], ◌∷◌}
+use Rattle.std.proofs.Common.{Some, Ok}
 use Rattle.lists.specs.Tests.{every}
-use Rattle.lists.proofs.EveryLaws.{every_append, every_flat_map}
+use Rattle.lists.proofs.EveryLaws.{every_append}
 use Rattle.model.specs.declared.Grant.{Grant}
-use Rattle.model.specs.declared.Matched.TheVariants as matched
 use Rattle.model.specs.Interval.{Interval}
 use Rattle.model.specs.Grant.{same_grant}
 use Rattle.model.specs.Answer.{matched_answer}
+use Rattle.model.specs.Refusal.{◌if◌}
 use Rattle.model.specs.Book.{Book}
 use Rattle.model.specs.Call.{Call}
 use Rattle.model.specs.Values.{CallFits}
@@ -20,11 +21,11 @@ use Rattle.model.specs.Histories.{Response}
 use Rattle.model.proofs.SoundLaws.{sound_answer, sound_cause, refusing_sound}
 use Rattle.model.proofs.BookLaws.{book_step_sound}
 use Rattle.grants_file.specs.declared.Defect.{Defect}
-use Rattle.grants_file.specs.declared.Defect.TheVariants.{Sound, Length, Checksum, Mark, BlockNumber, TooManyGrants, BlockCount}
+use Rattle.grants_file.specs.declared.Defect.TheVariants.{Length, Checksum, Mark, BlockNumber, TooManyGrants, BlockCount}
 use Rattle.grants_file.specs.declared.Defect.TheVariants.{RecordCount, DoorOrder, Padding, Record}
 use Rattle.grants_file.specs.File.{doors_in, grants_in}
-use Rattle.grants_file.specs.Defects.{file_defects, defect_fault}
-use Rattle.grants_file.specs.Verdict.{cause_by, file_causes}
+use Rattle.grants_file.specs.Defects.{DefectCause, file_defects, defect_fault}
+use Rattle.grants_file.specs.Verdict.{causes_of, file_causes}
 use Rattle.calls.specs.Order.{write_order, match_order}
 use Rattle.calls.specs.FileCalls.{touching_grants, write_call, first_difference, match_call}
 use Rattle.calls.specs.Calls.{words_step}
@@ -40,9 +41,7 @@ unfolding write_call write_order every
 write_sound {w} h doors lent = refusing_sound _ w lent _ (rw (represents_pool h, (touching-found h doors).whole)) refl
 
 -- the faults that defects stand for are 10 to 13
-defect_sound : (x : Defect) (t : Bool) → every sound_cause (cause_by (defect_fault x) t) ≡ true
-unfolding every
-defect_sound Sound t = refl
+defect_sound : (x : Defect) (t : Bool) → sound_cause (defect_fault x if t) ≡ true
 defect_sound Length t = refl
 defect_sound (Checksum i) t = refl
 defect_sound (Mark i older) t = refl
@@ -54,19 +53,24 @@ defect_sound (DoorOrder from to) t = refl
 defect_sound (Padding i) t = refl
 defect_sound (Record i k number wrong) t = refl
 
+causes_sound : (cs : List DefectCause) → every sound_cause (causes_of cs) ≡ true
+unfolding every causes_of
+causes_sound [] = refl
+causes_sound (c ∷ cs) = rw (defect_sound c.defect c.present) (causes_sound cs)
+
 file_sound : (f : List ℕ) → every sound_cause (file_causes f) ≡ true
 unfolding file_causes
-file_sound f = every_flat_map sound_cause _ (file_defects f) (λ c. defect_sound c.defect c.present)
+file_sound f = causes_sound (file_defects f)
 
-difference_sound : (gs hs : List Grant) → sound_answer (matched_answer (first_difference gs hs)) ≡ true
+difference_sound : (gs hs : List Grant) → sound_answer (matched_answer (Ok (first_difference gs hs))) ≡ true
 unfolding first_difference
 difference_sound [] [] = refl
 difference_sound [] (h ∷ hs) = refl
 difference_sound (g ∷ gs) [] = refl
 difference_sound (g ∷ gs) (h ∷ hs) = go (same_grant g h) (difference_sound gs hs)
   where
-    go : (b : Bool) → sound_answer (matched_answer (first_difference gs hs)) ≡ true
-        → sound_answer (matched_answer (cond b (first_difference gs hs) (matched.Differs (min g.number h.number)))) ≡ true
+    go : (b : Bool) → sound_answer (matched_answer (Ok (first_difference gs hs))) ≡ true
+        → sound_answer (matched_answer (Ok (cond b (first_difference gs hs) (Some (min g.number h.number))))) ≡ true
     go true e = e
     go false e = refl
 

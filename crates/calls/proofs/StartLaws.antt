@@ -39,5 +39,6 @@ pub start-sized : {c : ℕ} (memory : List ℕ) → Sized memory c → start_cal
 unfolding start_call start_order refusing first_fault
 start-sized {c} memory h = rw ((wrong_length_iff memory).1 (c, h), capacity_of-pool_length memory c h.long)
 
-pub start_refines : {c : ℕ} (memory : List ℕ) → Sized memory c → ((start_call memory).answer ≡ accepted []) × Represents (start_call memory).state (empty_book c)
+pub start_refines : {c : ℕ} (memory : List ℕ) → Sized memory c
+    → ((start_call memory).answer ≡ accepted []) × Represents (start_call memory).state (empty_book c)
 start_refines {c} memory h = rw (start-sized memory h) (refl, represents_fresh_pool c h.some h.few)

@@ -8,7 +8,7 @@ use Prim.Native.Nat.{ℕ, ◌*◌, ◌≤◌}
 use mathlib.Core.Path.{◌≡◌, sym, ap, subst, ◌∙◌}
 use mathlib.Core.Bool.{Bool, false}
 use mathlib.Core.List.{List, [], ◌∷◌, Memᴰ}
-use mathlib.Core.Option.{none}
+use Rattle.std.proofs.Common.{None}
 use native.Mathlib.Omega.{arith}
 use lib.ListN.{length}
 use borrow.Author.Tests.{le-ltb}
@@ -43,7 +43,7 @@ use Rattle.calls.proofs.Represents.{represents_count, Hits, range-hits}
 -- no cause answers where the pool is right, the doors are in order, no walk is broken and the lent bytes are enough
 write-order : (w : List ℕ) (doors : Interval) (lent : List ℕ) {broken : Bool} (hits : List ℕ) → wrong_pool w ≡ false → reversed_doors doors ≡ false
     → broken ≡ false
-    → length_needed hits ≤ length lent → first_fault (write_order w doors lent broken hits) ≡ none
+    → length_needed hits ≤ length lent → first_fault (write_order w doors lent broken hits) ≡ None
 unfolding write_order first_fault
 write-order w doors lent hits pool order whole room = rw (pool, order, whole, le-ltb (length lent) (length_needed hits) room)
 

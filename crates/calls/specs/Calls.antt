@@ -10,7 +10,7 @@
 -- All of it is fixed here: the hits count with repetition, list sorts them, decide takes the first of equals in the search's order,
 -- and the order of the stores is that of adt/specs/Insert and Remove.
 -- Assumes nothing: these are definitions.
-use Rattle.std.specs.Prelude.{ℕ, ◌-◌, List, [], ◌∷◌, map, length}
+use Rattle.std.specs.Prelude.{ℕ, ◌-◌, List, [], ◌∷◌, map, length, Ok}
 use Rattle.lists.specs.Overwrite.{overwrite}
 use Rattle.lists.specs.Sort.{sort_by}
 use Rattle.model.specs.declared.Box.{Box}
@@ -89,7 +89,7 @@ decide_call w staff door quarter =
     refusing
     (look_order w (is_broken s))
     w []
-    (record { state = w; answer = decision_answer (decide_among (grants_hit w s)); lent = [] })
+    (record { state = w; answer = decision_answer (Ok (decide_among (grants_hit w s))); lent = [] })
 
 unfoldable pub count_call : List ℕ → Step (List ℕ)
 count_call w =

@@ -9,7 +9,7 @@
 --   lent_too_short hits lent    14, by the number of hits
 -- Here 9 is that of the walks that stop, in a call that makes one search `is_broken` of Walks; LinkCauses says it as document 01 does.
 -- Assumes nothing: these are definitions.
-use Rattle.std.specs.Prelude.{ℕ, ◌*◌, Bool, true, false, not, ◌&&◌, ◌||◌, List, [], ◌∷◌, ltb, eqb, length}
+use Rattle.std.specs.Prelude.{ℕ, ◌*◌, Bool, true, false, not, ◌&&◌, ◌||◌, List, ltb, eqb, length}
 use Rattle.model.specs.Call.{Request}
 use Rattle.pool.specs.Capacity.{capacity_of}
 use Rattle.adt.specs.Insert.{InsertionWalk, free_head, free_broken}

@@ -4,12 +4,10 @@
 --   load_call w f              start, then grants in file order; C comes from the pool's length
 --   match_call w f             equal, or the lowest number at which the pool's grants touching the file's doors and the file differ
 -- Assumes nothing: these are definitions.
-use Rattle.std.specs.Prelude.{ℕ, min, cond, List, [], ◌∷◌}
+use Rattle.std.specs.Prelude.{ℕ, min, cond, List, [], ◌∷◌, Option, None, Some, Ok}
 use Rattle.lists.specs.Overwrite.{overwrite}
 use Rattle.lists.specs.Sort.{sort_by}
 use Rattle.model.specs.declared.Grant.{Grant}
-use Rattle.model.specs.declared.Matched.{Matched}
-use Rattle.model.specs.declared.Matched.TheVariants as matched
 use Rattle.model.specs.Interval.{Interval}
 use Rattle.model.specs.Grant.{same_grant}
 use Rattle.model.specs.Answer.{accepted, matched_answer}
@@ -51,16 +49,16 @@ load_call w f =
     w []
     (record { state = grant_all (fresh_pool (capacity_of w)) (grants_in f); answer = accepted []; lent = [] })
 
--- where two ascending lists of grants differ first: absent from one, or unequal
-unfoldable pub first_difference : List Grant → List Grant → Matched
-first_difference [] [] = matched.Equal
-first_difference [] (h ∷ hs) = matched.Differs h.number
-first_difference (g ∷ gs) [] = matched.Differs g.number
-first_difference (g ∷ gs) (h ∷ hs) = cond (same_grant g h) (first_difference gs hs) (matched.Differs (min g.number h.number))
+-- the number at which two ascending lists of grants differ first, absent from one or unequal; none where they are the same
+unfoldable pub first_difference : List Grant → List Grant → Option ℕ
+first_difference [] [] = None
+first_difference [] (h ∷ hs) = Some h.number
+first_difference (g ∷ gs) [] = Some g.number
+first_difference (g ∷ gs) (h ∷ hs) = cond (same_grant g h) (first_difference gs hs) (Some (min g.number h.number))
 
 unfoldable pub match_call : List ℕ → List ℕ → Step (List ℕ)
 match_call w f =
     refusing
     (match_order w f (is_broken (door_search w (doors_in f))))
     w []
-    (record { state = w; answer = matched_answer (first_difference (touching_grants w (doors_in f)) (grants_in f)); lent = [] })
+    (record { state = w; answer = matched_answer (Ok (first_difference (touching_grants w (doors_in f)) (grants_in f))); lent = [] })

@@ -1,6 +1,7 @@
 -- Laws of specs/Checksum.
 --   add_same, mul_mod      sums of equal remainders; a remainder taken of a factor
 --   base256-append         the bytes of two lists in a row
+--   base256_mod            a remainder taken before the bytes makes no difference
 --   checksum-append        the check goes on from the check of the bytes before
 --   checksum_lt            it is below the modulus
 --   checksum-set_changes   another byte at one place gives another check (document 01: one byte changed is refused)
@@ -34,8 +35,7 @@ mod_digit : (v b : ℕ) → (v % modulus * 256 + b) % modulus ≡ (v * 256 + b) 
 mod_digit v b =
     add_same (v % modulus * 256) b (v * 256) b (rw (mul_comm (v % modulus) 256, mul_comm v 256) (mul_mod 256 v)) refl
 
--- a remainder taken before the bytes makes no difference
-base256_mod : (v : ℕ) (bs : List ℕ) → base256 (v % modulus) bs % modulus ≡ base256 v bs % modulus
+pub base256_mod : (v : ℕ) (bs : List ℕ) → base256 (v % modulus) bs % modulus ≡ base256 v bs % modulus
 unfolding base256
 base256_mod v [] = mod-mod v modulus
 base256_mod v (b ∷ bs) =

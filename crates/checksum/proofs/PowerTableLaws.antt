@@ -1,19 +1,18 @@
 -- Laws of specs/PowerTable.
 --   table_powers     entry i of a table that passes the test is power i, for every i below 510
 --   entry_lt         it is below the modulus
---   product_le       a byte times an entry
 --   last_power       power 510 is 256 times the last entry, modulo 65521
 -- Assumes nothing.
 use Prim.Native.Nat.{ℕ, zero, suc, ◌+◌, ◌-◌, ◌*◌, ◌^◌, ◌%◌, ◌<◌, ◌≤◌}
 use mathlib.Core.Path.{◌≡◌, refl, sym, ap, ◌∙◌}
 use mathlib.Core.Bool.{Bool, true, false, ◌&&◌}
 use mathlib.Core.List.{List, [], ◌∷◌}
-use native.Mathlib.Nat.{add-zero, zero-add, add-suc, suc-add, mul_comm, mul-le-mul, mod-lt, le_of_suc-le-suc, not-suc-le-zero}
+use native.Mathlib.Nat.{add-zero, zero-add, add-suc, suc-add, mul_comm, mod-lt, le_of_suc-le-suc, not-suc-le-zero}
 use native.Mathlib.Omega.{arith}
 use lib.Dec.{T, eqb, eqb→eq, lit<}
 use lib.ListN.{length, get_or}
 use Rattle.checksum.specs.Checksum.{modulus}
-use Rattle.checksum.specs.PowerTable.{entries, most_product, is_geometric, is_table}
+use Rattle.checksum.specs.PowerTable.{entries, is_geometric, is_table}
 use Rattle.checksum.proofs.ChecksumLaws.{mul_mod}
 
 T_and : (a b : Bool) → T (a && b) → T a × T b
@@ -44,9 +43,6 @@ table_powers table i t h =
 
 pub entry_lt : (table : List ℕ) (i : ℕ) → T (is_table table) → i < entries → get_or table i 0 < modulus
 entry_lt table i t h = rw (table_powers table i t h) (mod-lt (256 ^ i) (lit< tt))
-
-pub product_le : (b p : ℕ) → b < 256 → p < modulus → b * p ≤ most_product
-product_le b p h k = mul-le-mul {n₂ = 255} {m₂ = 65520} (omega arith) (omega arith)
 
 pub last_power : (table : List ℕ) (exponent : ℕ) → T (is_table table) → entries ≤ exponent → exponent ≤ entries
     → get_or table (entries - 1) 0 * 256 % modulus ≡ 256 ^ exponent % modulus

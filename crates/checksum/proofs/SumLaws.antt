@@ -2,21 +2,19 @@
 --   products_start, products_turn, products_end     no byte yet, a byte more, all
 --   shift_lt       a remainder shifted is below 2 ^ 32
 --   chunk-sum      a chunk, from the sums of its two halves
---   chunk_short    a chunk has at most 510 bytes
---   chunk_turn     a chunk more
+--   chunk_turn, chunks_end     a chunk more, before the bytes that are left; none is left
 -- Assumes nothing.
 use Prim.Native.Nat.{ℕ, suc, ◌+◌, ◌*◌, ◌^◌, ◌-◌, ◌%◌, ◌<◌, ◌≤◌}
 use mathlib.Core.Path.{◌≡◌, sym, ap, ◌∙◌}
-use mathlib.Core.List.{List, [], ◌∷◌}
+use mathlib.Core.List.{List, [], ◌∷◌, ◌++◌}
 use native.Mathlib.Numerals.{add-one}
 use native.Mathlib.Nat.{zero-mul, mod-lt, mul-le-mul, pow-succ'}
 use native.Mathlib.Omega.{arith}
 use lib.Dec.{lit<}
-use lib.ListN.{length, get_or, take, drop, take-append-drop, length-take, length-drop}
-use lib.Seq.{take-suc, take_all, take-add}
-use Rattle.checksum.specs.Checksum.{modulus, base256, checksum}
-use Rattle.checksum.specs.PowerTable.{entries}
-use Rattle.checksum.proofs.ChecksumLaws.{add_same, mul_mod, base256-append, checksum-append}
+use lib.ListN.{length, get_or, take, drop, take-append-drop, length-drop}
+use lib.Seq.{take-suc, take_all}
+use Rattle.checksum.specs.Checksum.{modulus, base256}
+use Rattle.checksum.proofs.ChecksumLaws.{add_same, mul_mod, base256-append, base256_mod}
 
 -- the digits before the bytes, times the bytes' power
 base256_lead : (v : ℕ) (bs : List ℕ) → base256 v bs ≡ v * 256 ^ length bs + base256 0 bs
@@ -78,12 +76,10 @@ chunk-sum bs half before lead front back is-lead is_front is-back =
     (add_same lead front (before * 256 ^ length bs) high is-lead is_front) is-back
     ∙ ap (λ (n : ℕ). n % modulus) (sym (base256-halves bs half before))
 
-pub chunk_short : (bs : List ℕ) (at end : ℕ) → end ≤ at + entries → length (take (end - at) (drop at bs)) ≤ entries
-chunk_short bs at end h = rw (length-take (end - at) (drop at bs)) (omega arith)
+pub chunk_turn : (sum : ℕ) (chunk rest : List ℕ) → base256 (base256 sum chunk % modulus) rest % modulus ≡ base256 sum (chunk ++ rest) % modulus
+chunk_turn sum chunk rest = base256_mod (base256 sum chunk) rest ∙ ap (λ (n : ℕ). n % modulus) (sym (base256-append sum chunk rest))
 
-pub chunk_turn : (bs : List ℕ) (at end sum : ℕ) → at ≤ end → sum ≡ checksum (take at bs)
-    → base256 sum (take (end - at) (drop at bs)) % modulus ≡ checksum (take end bs)
-chunk_turn bs at end sum h e =
-    let whole : at + (end - at) ≡ end = omega arith in
-    rw e (sym (checksum-append (take at bs) (take (end - at) (drop at bs))))
-    ∙ ap checksum (sym (take-add at (end - at) bs) ∙ ap (λ (n : ℕ). take n bs) whole)
+pub chunks_end : (sum check : ℕ) (rest : List ℕ) → length rest ≡ 0 → sum < modulus → base256 sum rest % modulus ≡ check → sum ≡ check
+unfolding base256
+chunks_end sum check [] h small e = omega arith
+chunks_end sum check (b ∷ bs) h small e = absurd (omega arith)

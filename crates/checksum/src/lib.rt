@@ -2,7 +2,7 @@
 // a time. A block is one chunk: its products are added, and one remainder is taken at the end.
 #![tactic(auto)]
 
-ghost use Rattle.std.specs.Prelude.{◌≡◌, ◌+◌, ◌*◌, ◌^◌, ◌%◌, ◌<◌, ◌≤◌, min, T, length};
+ghost use Rattle.std.specs.Prelude.{◌≡◌, ◌+◌, ◌*◌, ◌^◌, ◌%◌, ◌<◌, ◌≤◌, T, length};
 ghost use Rattle.checksum.specs.Checksum.{modulus, base256, checksum};
 ghost use Rattle.checksum.specs.PowerTable.{entries, most_product, is_table, Summable, Shiftable};
 
@@ -12,18 +12,12 @@ use powers::{ENTRIES, POWERS};
 
 const MODULUS: u64 = 65521;
 
-fn wide(power: u16) -> u64
-    ensures { (result ≡ power) × (result < 65536) }
-{
-    power as u64
-}
-
 // A byte times a power; 255 of them fit in a u32.
 fn product(byte: u8, power: u16) -> u32
     requires { power < modulus }
     ensures { (result ≡ byte * power) × (result ≤ most_product) }
 {
-    (byte as u32) * (power as u32)
+    u32::from(byte) * u32::from(power)
 }
 
 // The bytes times their powers, added, with so many bytes behind them. In 32 bits the compiler takes several to an instruction.
@@ -32,12 +26,8 @@ fn sum_of_products(bytes: &[u8], powers: &[u16; ENTRIES], behind: usize) -> u32
     ensures { result % modulus ≡ base256 0 bytes.now * 256 ^ behind % modulus }
 {
     let mut sum: u32 = 0;
-    let mut at: usize = 0;
-    let mut exponent = bytes.len() + behind;
-    while at < bytes.len() {
-        exponent -= 1;
-        sum += product(bytes[at], powers[exponent]);
-        at += 1;
+    for (at, byte) in bytes.iter().enumerate() {
+        sum += product(*byte, powers[bytes.len() + behind - 1 - at]);
     }
     sum
 }
@@ -48,9 +38,9 @@ fn power(powers: &[u16; ENTRIES], exponent: usize) -> u64
     ensures { result ≡ 256 ^ exponent % modulus }
 {
     if exponent < ENTRIES {
-        return wide(powers[exponent]);
+        return u64::from(powers[exponent]);
     }
-    wide(powers[ENTRIES - 1]) * 256 % MODULUS
+    u64::from(powers[ENTRIES - 1]) * 256 % MODULUS
 }
 
 // A remainder with so many bytes behind it: times their power.
@@ -69,18 +59,7 @@ fn sum_of_chunk(bytes: &[u8], powers: &[u16; ENTRIES], before: u64) -> u64
     let half = bytes.len() / 2;
     let front = sum_of_products(&bytes[..half], powers, bytes.len() - half);
     let back = sum_of_products(&bytes[half..], powers, 0);
-    (shifted(powers, before, bytes.len()) + front as u64 + back as u64) % MODULUS
-}
-
-// Where a chunk ends: 510 bytes on, or with the bytes.
-fn end_of_chunk(at: usize, length: usize) -> usize
-    requires { at < length }
-    ensures { result ≡ min (at + entries) length }
-{
-    if ENTRIES < length - at {
-        return at + ENTRIES;
-    }
-    length
+    (shifted(powers, before, bytes.len()) + u64::from(front) + u64::from(back)) % MODULUS
 }
 
 // Document 01's check. The byte 1 in front is the remainder before the first chunk.
@@ -89,11 +68,8 @@ pub fn checksum(bytes: &[u8]) -> u16
 {
     let powers = POWERS;
     let mut sum: u64 = 1;
-    let mut at: usize = 0;
-    while at < bytes.len() {
-        let end = end_of_chunk(at, bytes.len());
-        sum = sum_of_chunk(&bytes[at..end], &powers, sum);
-        at = end;
+    for chunk in bytes.chunks(ENTRIES) {
+        sum = sum_of_chunk(chunk, &powers, sum);
     }
     sum as u16
 }

@@ -8,12 +8,12 @@ use Prim.Native.Nat.{ℕ, min}
 use mathlib.Core.Path.{◌≡◌, refl, ap}
 use mathlib.Core.Bool.{Bool, true, false, cond}
 use mathlib.Core.List.{List, [], ◌∷◌}
+use Rattle.std.proofs.Common.{Some, Ok}
 use Rattle.model.specs.declared.Box.{Box}
 use Rattle.model.specs.declared.Kind.{Kind}
 use Rattle.model.specs.declared.Kind.TheVariants as kind
 use Rattle.model.specs.declared.Grant.{Grant}
 use Rattle.model.specs.declared.Choice.{Choice}
-use Rattle.model.specs.declared.Matched.TheVariants.{Differs}
 use Rattle.model.specs.Interval.{Interval}
 use Rattle.model.specs.Grant.{same_grant}
 use Rattle.model.specs.Answer.{Answer, accepted, decision_answer, matched_answer}
@@ -39,24 +39,24 @@ use Rattle.claims.proofs.KeepsLaws.{made_pools}
 abbrev Taken : Answer → Type 0
 Taken answer = (values : List ℕ) × (answer ≡ accepted values)
 
-decision_of-taken : (k : Kind) (g : Grant) → Taken (decision_answer (decision_of k g))
+decision_of-taken : (k : Kind) (g : Grant) → Taken (decision_answer (Ok (decision_of k g)))
 decision_of-taken kind.Bars g = (_, refl)
 decision_of-taken kind.Opens g = (_, refl)
 
-decide_among-taken : (gs : List Grant) → Taken (decision_answer (decide_among gs))
+decide_among-taken : (gs : List Grant) → Taken (decision_answer (Ok (decide_among gs)))
 unfolding decide_among
 decide_among-taken [] = (_, refl)
 decide_among-taken (g ∷ gs) = let d = deciding_of g gs in decision_of-taken d.kind d
 
-first_difference-taken : (gs hs : List Grant) → Taken (matched_answer (first_difference gs hs))
+first_difference-taken : (gs hs : List Grant) → Taken (matched_answer (Ok (first_difference gs hs)))
 unfolding first_difference
 first_difference-taken [] [] = (_, refl)
 first_difference-taken [] (h ∷ hs) = (_, refl)
 first_difference-taken (g ∷ gs) [] = (_, refl)
 first_difference-taken (g ∷ gs) (h ∷ hs) = go (same_grant g h) (first_difference-taken gs hs)
   where
-    go : (b : Bool) → Taken (matched_answer (first_difference gs hs))
-        → Taken (matched_answer (cond b (first_difference gs hs) (Differs (min g.number h.number))))
+    go : (b : Bool) → Taken (matched_answer (Ok (first_difference gs hs)))
+        → Taken (matched_answer (Ok (cond b (first_difference gs hs) (Some (min g.number h.number)))))
     go true rest = rest
     go false rest = (_, refl)
 

@@ -10,7 +10,7 @@ use mathlib.Core.Logic.{◌≢◌}
 use mathlib.Core.Path.{◌≡◌, refl}
 use mathlib.Core.Bool.{true, cond}
 use mathlib.Core.List.{List, [], ◌∷◌, flat_map}
-use mathlib.Core.Option.{none}
+use Rattle.std.proofs.Common.{None}
 use native.Mathlib.Omega.{arith}
 use lib.ListN.{length, get_or, set}
 use Rattle.model.specs.declared.Box.{Box}
@@ -66,7 +66,7 @@ one_byte_refused f i v w below taken inside byte other =
     (load-refuses w (set f i v) _ refused, match_refuses w (set f i v) _ refused)
 
 -- block read accepts a block in which no cause holds
-block-accepted : (f : List ℕ) (i : ℕ) → first_fault (read_causes f i) ≡ none → (block_call f i).answer ≡ accepted []
+block-accepted : (f : List ℕ) (i : ℕ) → first_fault (read_causes f i) ≡ None → (block_call f i).answer ≡ accepted []
 unfolding block_call refusing
 block-accepted f i e = rw e
 

@@ -10,13 +10,14 @@ use mathlib.Core.Path.{◌≡◌, refl, sym, ap, ◌∙◌}
 use mathlib.Core.Bool.{Bool, true, false, not, true≢false}
 use mathlib.Core.List.Memᴰ
 use mathlib.Core.List.{List, [], ◌∷◌, Memᴰ}
-use mathlib.Core.Option.{none}
+use Rattle.std.proofs.Common.{Option, None, Result, Ok, Err}
 use native.Mathlib.Omega.{arith}
 use lib.Dec.{eqb}
 use lib.ListN.{length, drop}
 use borrow.Author.Tests.{eqb-true, eq-eqb, ne_eqb}
 use Rattle.lists.proofs.KeyLaws.{any_mem, mem_any}
 use Rattle.model.specs.declared.Grant.{Grant}
+use Rattle.model.specs.declared.Fault.{Fault}
 use Rattle.model.specs.declared.Fault.TheVariants.{ZeroNumber, NotLive}
 use Rattle.model.specs.Refusal.{first_fault}
 use Rattle.model.specs.Call.{request_of}
@@ -43,11 +44,14 @@ use Rattle.calls.proofs.HoldsLaws.{carried-cell, represents_holds}
 use Rattle.calls.proofs.LiveNumberLaws.{number-found, number_live-is_live}
 use Rattle.calls.proofs.RevokeLaws.{causes, first_found}
 use Rattle.grant_path.specs.declared.ancestors.Ancestor.{Ancestor}
-use Rattle.grant_path.specs.declared.ancestors.Ancestor.TheVariants.{Is, Refused}
 use Rattle.grant_path.specs.GrantPath.{ancestor_from, ancestor_at}
 use Rattle.grant_path.proofs.AncestorLaws.{ancestor_on, ancestor_past}
-use Rattle.claims.specs.GrantPaths.{ShowsWay, WayClaim, ShowsCell, ShowsPath, ShowsPaths, PathClaim}
+use Rattle.claims.specs.GrantPaths.{cell_shown, ShowsWay, WayClaim, ShowsCell, ShowsPath, ShowsPaths, PathClaim}
 use Rattle.claims.proofs.MadeLaws.{made_represents}
+
+-- an answer that is no refusal
+abbrev shown : Option Ancestor → Result (Option Ancestor) Fault
+shown = Ok
 
 -- a search that is not broken and hits
 hit_first : (s : Search) → is_broken s ≡ false → not (number_live (hits_of s)) ≡ false
@@ -57,12 +61,12 @@ hit_first (going met [] first) whole live = absurd (true≢false live)
 hit_first (going met (k ∷ others) first) whole live = (met, k, others, first, refl)
 
 -- where nothing is refused, the way up begins at the first hit
-from_first : (w : List ℕ) (n i : ℕ) → first_fault (live_line w n) ≡ none
-    → ancestor_at w n i ≡ ancestor_from w (first_hit (number_search w n)) (first_spot_of (number_search w n)).level i
+from_first : (w : List ℕ) (n i : ℕ) → first_fault (live_line w n) ≡ None
+    → ancestor_at w n i ≡ Ok (ancestor_from w (first_hit (number_search w n)) (first_spot_of (number_search w n)).level i)
 unfolding ancestor_at
 from_first w n i passes = rw passes
 
-shows-way : (w : List ℕ) (n : ℕ) → first_fault (live_line w n) ≡ none → ShowsWay w n
+shows-way : (w : List ℕ) (n : ℕ) → first_fault (live_line w n) ≡ None → ShowsWay w n
 unfolding revoke_order
 shows-way w n passes =
     let searched = causes_absent _ _ (causes_absent _ _ (causes_absent _ _ passes).1).1 in
@@ -70,13 +74,13 @@ shows-way w n passes =
     let q = range_of_number n in
     let to = going-path w q (in_range q) hit.0 hit.1 hit.2 hit.3 hit.4 in
     let path = to.path in
-    let from : (i : ℕ) → ancestor_at w n i ≡ ancestor_from w (node_at w path) (length path) i = λ i.
-    from_first w n i passes ∙ ap (λ (s : Search). ancestor_from w (first_hit s) (first_spot_of s).level i) hit.4 ∙ rw (to.ends, to.steps) in
+    let from : (i : ℕ) → ancestor_at w n i ≡ Ok (ancestor_from w (node_at w path) (length path) i) = λ i.
+    from_first w n i passes ∙ ap (λ (s : Search). shown (ancestor_from w (first_hit s) (first_spot_of s).level i)) hit.4 ∙ rw (to.ends, to.steps) in
     record {
       path = path;
       ends = to.ends ∙ ap first_hit (sym hit.4);
-      cells = λ i le. from i ∙ ancestor_on w (capacity_of w) path i to.parents le;
-      end = λ i lt. from i ∙ ancestor_past w (capacity_of w) path i to.parents lt;
+      cells = λ i le. from i ∙ ap shown (ancestor_on w (capacity_of w) path i to.parents le);
+      end = λ i lt. from i ∙ ap shown (ancestor_past w (capacity_of w) path i lt);
     }
 
 pub way_claim : WayClaim
@@ -88,18 +92,18 @@ module _ {w : List ℕ} {b : Book} (h : Represents w b) where
   unfolding revoke_order first_fault
   path-order n = rw (represents_pool h, (number-found h n).whole, number_live-is_live h n)
 
-  shows_zero : (i : ℕ) → ancestor_at w 0 i ≡ Refused ZeroNumber
+  shows_zero : (i : ℕ) → ancestor_at w 0 i ≡ Err ZeroNumber
   unfolding ancestor_at first_fault
   shows_zero i = rw (path-order 0)
 
   -- whether the number is live, of a number that isn't 0
   module _ (n : ℕ) (some : ¬ (n ≡ 0)) where
-    not-shown : is_live b n ≡ false → (i : ℕ) → ancestor_at w n i ≡ Refused NotLive
+    not-shown : is_live b n ≡ false → (i : ℕ) → ancestor_at w n i ≡ Err NotLive
     unfolding ancestor_at first_fault
     not-shown e i = rw (path-order n, ne_eqb n 0 some, e)
 
     from_hit : is_live b n ≡ true → (i : ℕ)
-        → ancestor_at w n i ≡ ancestor_from w (first_hit (number_search w n)) (first_spot_of (number_search w n)).level i
+        → ancestor_at w n i ≡ Ok (ancestor_from w (first_hit (number_search w n)) (first_spot_of (number_search w n)).level i)
     unfolding ancestor_at first_fault
     from_hit e i = rw (path-order n, ne_eqb n 0 some, e)
 
@@ -118,7 +122,7 @@ module _ {w : List ℕ} {b : Book} (h : Represents w b) where
     numbered z = absurd (omega (arith, request-numbered (request_of g) (live-faultless h g m), z))
 
     -- the way up begins at the end of the grant's path, at the level of its length
-    from-path : (p : List Side) → CarriedAt w g p → (i : ℕ) → ancestor_at w g.number i ≡ ancestor_from w (node_at w p) (length p) i
+    from-path : (p : List Side) → CarriedAt w g p → (i : ℕ) → ancestor_at w g.number i ≡ Ok (ancestor_from w (node_at w p) (length p) i)
     from-path p carried i =
         let found = first_found h g.number live in
         let cell = carried-cell h carried found.cell (hangs_cell found.hangs) found.number in
@@ -133,12 +137,15 @@ module _ {w : List ℕ} {b : Book} (h : Represents w b) where
         record {
           path = p;
           carried = o.1;
-          cells = λ i le. shown (drop i p) (path-drop w p i reached) (from-path p o.1 i ∙ ancestor_on w _ p i (linked_along h.linked p reached) le);
-          end = λ i lt. from-path p o.1 i ∙ ancestor_past w _ p i (linked_along h.linked p reached) lt;
+          cells = λ i le.
+              let on = ancestor_on w _ p i (linked_along h.linked p reached) le in
+              showing (drop i p) (path-drop w p i reached) (from-path p o.1 i ∙ ap shown on);
+          end = λ i lt. from-path p o.1 i ∙ ap shown (ancestor_past w b.capacity p i lt);
         }
       where
-        shown : (p : List Side) → 0 < node_at w p → {a : Ancestor} → a ≡ Is (node_at w p) (length p) (grant_at w (node_at w p)) → ShowsCell w b.live p a
-        shown p reached e =
+        showing : (p : List Side) → 0 < node_at w p → {a : Result (Option Ancestor) Fault}
+            → a ≡ cell_shown (node_at w p) (length p) (grant_at w (node_at w p)) → ShowsCell w b.live p a
+        showing p reached e =
             let m = linked_reached h.linked p reached in
             record {
               grant = grant_at w (node_at w p);

@@ -9,7 +9,7 @@ use mathlib.Core.Logic.{◌↔◌}
 use mathlib.Core.Path.{◌≡◌, refl, sym, subst, ◌∙◌}
 use mathlib.Core.Bool.{Bool, true, false, cond, true≢false}
 use mathlib.Core.List.{List, [], Memᴰ}
-use mathlib.Core.Option.{none, some}
+use Rattle.std.proofs.Common.{None, Some, Ok}
 use native.Mathlib.Omega.{arith}
 use lib.Dec.{T, leb}
 use borrow.Author.Tests.{leb-true, leb-false, lt-leb, le-ltb}
@@ -134,12 +134,12 @@ filed_forward f below taken g m =
     faultless_forward g (o.2.each g member).faultless
 
 last_none : (w : List ℕ) (staff door : ℕ)
-    → (decide_call w staff door top_quarter).answer ≡ cond (wrong_pool w) (refusal BadPool) (decision_answer decision.None)
+    → (decide_call w staff door top_quarter).answer ≡ cond (wrong_pool w) (refusal BadPool) (decision_answer (Ok decision.None))
 unfolding decide_call look_order refusing first_fault decide_among
 last_none w staff door = go (wrong_pool w)
   where
-    go : (t : Bool) → (step_by (cond t (some BadPool) none) w [] (record { state = w; answer = decision_answer decision.None; lent = [] })).answer
-        ≡ cond t (refusal BadPool) (decision_answer decision.None)
+    go : (t : Bool) → (step_by (cond t (Some BadPool) None) w [] (record { state = w; answer = decision_answer (Ok decision.None); lent = [] })).answer
+        ≡ cond t (refusal BadPool) (decision_answer (Ok decision.None))
     go true = refl
     go false = refl
 

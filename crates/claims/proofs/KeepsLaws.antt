@@ -13,6 +13,7 @@ use mathlib.Core.Logic.{◌↔◌}
 use mathlib.Core.Path.{◌≡◌, refl, sym, ap, ◌∙◌}
 use mathlib.Core.List.Memᴰ
 use mathlib.Core.List.{List, map, Memᴰ}
+use Rattle.std.proofs.Common.{Ok}
 use native.Mathlib.Omega.{arith}
 use lib.ListN.{length, take, get_or, replicate, length-replicate}
 use lib.Seq.{take_at}
@@ -108,14 +109,14 @@ module _ {w : List ℕ} {b : Book} (h : Represents w b) where
     q = point_box staff door quarter
 
     -- the answer is that of the grants that overlap the point
-    decide-answer : (decide_call w staff door quarter).answer ≡ decision_answer (decide_among (overlapping q b.live))
+    decide-answer : (decide_call w staff door quarter).answer ≡ decision_answer (Ok (decide_among (overlapping q b.live)))
     unfolding book_decide
     decide-answer = ap (λ (t : Response). t.answer) (decide_refines h staff door quarter).same
 
-    answer_iff : (d : Decision) → ((decide_call w staff door quarter).answer ≡ decision_answer d) ↔ (decide_among (overlapping q b.live) ≡ d)
+    answer_iff : (d : Decision) → ((decide_call w staff door quarter).answer ≡ decision_answer (Ok d)) ↔ (decide_among (overlapping q b.live) ≡ d)
     answer_iff d = (
-      (λ e. decision_answer_injective (decide_among (overlapping q b.live)) d (sym decide-answer ∙ e)),
-      (λ e. decide-answer ∙ ap decision_answer e),
+      (λ e. let same = decision_answer_injective (Ok (decide_among (overlapping q b.live))) (Ok d) (sym decide-answer ∙ e) in cc),
+      (λ e. decide-answer ∙ ap (λ (x : Decision). decision_answer (Ok x)) e),
     )
 
     foremost_iff : (g : Grant) → Decides b.live q g ↔ Foremost g (overlapping q b.live)
@@ -137,9 +138,9 @@ module _ {w : List ℕ} {b : Book} (h : Represents w b) where
     )
 
     decided :
-        (((decide_call w staff door quarter).answer ≡ decision_answer decision.None)
+        (((decide_call w staff door quarter).answer ≡ decision_answer (Ok decision.None))
         ↔ ((g : Grant) → Memᴰ g b.live → Overlap g.bounds q → ⊥))
-        × ((g : Grant) → Decides b.live q g ↔ ((decide_call w staff door quarter).answer ≡ decision_answer (decision_of g.kind g)))
+        × ((g : Grant) → Decides b.live q g ↔ ((decide_call w staff door quarter).answer ≡ decision_answer (Ok (decision_of g.kind g))))
     decided =
         let gs = overlapping q b.live in
         let none = decide_among-none gs in

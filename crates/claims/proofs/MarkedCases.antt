@@ -1,6 +1,5 @@
 -- Document 01's "Marked cases", all but the slips, as one table under one theorem. Assumes nothing.
-use mathlib.Core.List.{List, [], ◌∷◌, map}
-use Prim.Native.Nat.{ℕ}
+use mathlib.Core.List.{List, [], ◌∷◌}
 use lib.Dec.{T}
 use Rattle.lists.specs.Tests.{every, same_numbers}
 use Rattle.lists.specs.Ranges.{count_from}

@@ -52,8 +52,8 @@ lent = replicate 2048 0
 
 pub marked_session : session_text book_step (empty_book 2048) lent (map ascii input) ≡ ascii output
 unfolding session_text line_step parse_line fields_slip letter_slip numbers fields decimal is_number value_after every
-    book_step book_grant book_revoke book_list book_decide book_count refusing first_fault reversed_box overlaps holds_box relation_of takes insert_by filter any overwrite
-    outranks deciding_of decide_among numeral digits_by each_after_blank
+    book_step book_grant book_revoke book_list book_decide book_count refusing first_fault reversed_box overlaps holds_box relation_of takes insert_by filter
+    any overwrite outranks deciding_of decide_among numeral digits_by each_after_blank
 marked_session = refl
 
 -- the program's memory, of zeros, is of that size

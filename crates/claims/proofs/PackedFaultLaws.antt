@@ -10,7 +10,7 @@ use Prim.Native.Nat.{ℕ, ◌<◌}
 use mathlib.Core.Path.{◌≡◌, refl, subst}
 use mathlib.Core.Bool.{Bool, true, false, cond, and-eq-true_iff}
 use mathlib.Core.List.{List, [], ◌∷◌, ◌++◌}
-use mathlib.Core.Option.{Option, none, some}
+use Rattle.std.proofs.Common.{Option, None, Some}
 use native.Mathlib.Omega.{arith}
 use lib.Dec.{ltb, eqb, lit<}
 use borrow.Author.Tests.{ltb-true}
@@ -63,13 +63,13 @@ abbrev pub SmallAll : List Cause → Type 0
 SmallAll cs = every small_cause cs ≡ true
 
 abbrev pub SmallFirst : List Cause → Type 0
-SmallFirst cs = (f : Fault) → first_fault cs ≡ some f → Small f
+SmallFirst cs = (f : Fault) → first_fault cs ≡ Some f → Small f
 
 pub small_first : (c : Cause) (cs : List Cause) → Small c.fault → (c.present ≡ false → SmallFirst cs) → SmallFirst (c ∷ cs)
 unfolding first_fault
 small_first c cs here rest f e = go c.present refl e
   where
-    go : (b : Bool) → c.present ≡ b → cond b (some c.fault) (first_fault cs) ≡ some f → Small f
+    go : (b : Bool) → c.present ≡ b → cond b (Some c.fault) (first_fault cs) ≡ Some f → Small f
     go true p q = let same : c.fault ≡ f = cc in subst Small same here
     go false p q = rest p f q
 
@@ -84,10 +84,10 @@ pub small_append : (cs ds : List Cause) → SmallAll cs → SmallAll ds → Smal
 small_append cs ds s t = every_append small_cause cs ds s t
 
 pub call_fits : {S : Type 0} (P : Answer → Type 0) → ((f : Fault) → Small f → P (refusal f)) → (cs : List Cause) (s : S) (lent : List ℕ) (d : Step S)
-    → SmallFirst cs → (first_fault cs ≡ none → P d.answer) → P (refusing cs s lent d).answer
+    → SmallFirst cs → (first_fault cs ≡ None → P d.answer) → P (refusing cs s lent d).answer
 unfolding refusing
 call_fits {S} P refusals cs s lent d small done = go (first_fault cs) small done
   where
-    go : (o : Option Fault) → ((f : Fault) → o ≡ some f → Small f) → (o ≡ none → P d.answer) → P (step_by o s lent d).answer
-    go none k h = h refl
-    go (some f) k h = refusals f (k f refl)
+    go : (o : Option Fault) → ((f : Fault) → o ≡ Some f → Small f) → (o ≡ None → P d.answer) → P (step_by o s lent d).answer
+    go None k h = h refl
+    go (Some f) k h = refusals f (k f refl)

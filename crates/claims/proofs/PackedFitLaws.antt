@@ -3,13 +3,13 @@
 --   file_small      the faults of a file name blocks below 68
 --   answers_fit     the claim
 -- Assumes nothing.
-use Prim.Native.Nat.{ℕ, zero, suc, ◌+◌, ◌*◌, ◌≤◌, ◌<◌, min}
+use Prim.Native.Nat.{ℕ, zero, suc, ◌≤◌, ◌<◌, min}
 use mathlib.Core.Logic.{◌⊎◌, inl, inr}
 use mathlib.Core.Path.{◌≡◌, refl, sym, ap, subst}
 use mathlib.Core.Bool.{Bool, true, false, cond}
 use mathlib.Core.List.Memᴰ
-use mathlib.Core.List.{List, [], ◌∷◌, ◌++◌, flat_map, Memᴰ}
-use mathlib.Core.Option.{Option, none, some}
+use mathlib.Core.List.{List, [], ◌∷◌, ◌++◌, flat_map, map-append, Memᴰ}
+use Rattle.std.proofs.Common.{Some, Ok}
 use native.Mathlib.Omega.{arith}
 use lib.Dec.{leb, ltb, lit<}
 use lib.ListN.{length}
@@ -18,20 +18,18 @@ use Rattle.lists.specs.Tests.{every}
 use Rattle.lists.specs.Ranges.{count_from}
 use Rattle.lists.proofs.SortLaws.{sort_by_mem}
 use Rattle.lists.proofs.OrLaws.{or_false_iff}
-use Rattle.lists.proofs.ListLaws.{count_from_mem, flat_map_append}
+use Rattle.lists.proofs.ListLaws.{count_from_mem}
 use Rattle.model.specs.declared.Box.{Box}
 use Rattle.model.specs.declared.Grant.{Grant}
 use Rattle.model.specs.declared.Choice.{Choice}
 use Rattle.model.specs.Relation.{taken}
-use Rattle.model.specs.declared.Fault.{Fault}
 use Rattle.model.specs.declared.Kind.{Kind}
 use Rattle.model.specs.declared.Kind.TheVariants.{Bars, Opens}
-use Rattle.model.specs.declared.Matched.TheVariants as matched
 use Rattle.model.specs.Limits.{max_grants}
 use Rattle.model.specs.Interval.{Interval}
 use Rattle.model.specs.Grant.{same_grant}
 use Rattle.model.specs.Answer.{decision_answer, matched_answer}
-use Rattle.model.specs.Refusal.{Cause, first_fault}
+use Rattle.model.specs.Refusal.{Cause}
 use Rattle.model.specs.Decide.{decide_among, deciding_of, decision_of}
 use Rattle.model.specs.Call.{Request}
 use Rattle.model.specs.Values.{word_values, byte_values, Below}
@@ -48,7 +46,7 @@ use Rattle.pool.proofs.CapacityLaws.{capacity_of-pool_length, wrong_pool_iff}
 use Rattle.adt.specs.Search.{search_by}
 use Rattle.grants_file.specs.Layout.{max_blocks}
 use Rattle.grants_file.specs.Record.{record_number}
-use Rattle.grants_file.specs.Block.{count_of, records_of}
+use Rattle.grants_file.specs.Block.{records_of}
 use Rattle.grants_file.specs.File.{count_in, blocks_in, block_at, wrong_block_count, total_in, doors_in}
 use Rattle.grants_file.specs.Defects.{DefectCause, start_defects, layout_defects, record_defects, records_defects}
 use Rattle.grants_file.specs.Defects.{last_before, miscounted, content_defects, block_defects, file_defects}
@@ -103,12 +101,12 @@ list-fits w q choice lent =
     (λ e. omega (arith, hits_most w (range_of_box q) (taken choice q) (causes_absent _ _ e).0))
 
 -- 0, 1 or 2
-decision_fits : (gs : List Grant) → Fits (decision_answer (decide_among gs))
+decision_fits : (gs : List Grant) → Fits (decision_answer (Ok (decide_among gs)))
 unfolding decide_among
 decision_fits [] = lit< tt
 decision_fits (g ∷ gs) = go (deciding_of g gs).kind (deciding_of g gs)
   where
-    go : (k : Kind) (d : Grant) → Fits (decision_answer (decision_of k d))
+    go : (k : Kind) (d : Grant) → Fits (decision_answer (Ok (decision_of k d)))
     go Bars d = lit< tt
     go Opens d = lit< tt
 
@@ -136,7 +134,8 @@ write-fits w doors lent =
 
 -- the causes of defects in two rows
 small_join : (cs ds : List DefectCause) → SmallAll (causes_of cs) → SmallAll (causes_of ds) → SmallAll (causes_of (cs ++ ds))
-small_join cs ds p q = subst SmallAll (sym (flat_map_append _ cs ds)) (small_append (causes_of cs) (causes_of ds) p q)
+unfolding causes_of
+small_join cs ds p q = subst SmallAll (sym (map-append _ cs ds)) (small_append (causes_of cs) (causes_of ds) p q)
 
 -- a block's causes name its number
 module _ (i : ℕ) (few : i < max_blocks) where
@@ -144,19 +143,19 @@ module _ (i : ℕ) (few : i < max_blocks) where
   number_small = lt-ltb i a_values (omega arith)
 
   start_small : (b : List ℕ) → SmallAll (causes_of (start_defects b i))
-  unfolding every flat_map
+  unfolding every causes_of flat_map
   start_small b = rw number_small
 
   layout_small : (b : List ℕ) (t : Bool) → SmallAll (causes_of (layout_defects b i t))
-  unfolding every flat_map
+  unfolding every causes_of flat_map
   layout_small b t = rw number_small
 
   record_small : (doors : Interval) (k last : ℕ) (r : List ℕ) → SmallAll (causes_of (record_defects doors i k last r))
-  unfolding every flat_map
+  unfolding every causes_of flat_map
   record_small doors k last r = rw number_small
 
   records_small : (doors : Interval) (k last : ℕ) (rs : List (List ℕ)) → SmallAll (causes_of (records_defects doors i k last rs))
-  unfolding records_defects every flat_map
+  unfolding records_defects every causes_of
   records_small doors k last [] = refl
   records_small doors k last (r ∷ rs) =
       small_join (record_defects doors i k last r) (records_defects doors i (suc k) (record_number r) rs)
@@ -164,7 +163,7 @@ module _ (i : ℕ) (few : i < max_blocks) where
       (records_small doors (suc k) (record_number r) rs)
 
 content_small : (f : List ℕ) (i : ℕ) → i < max_blocks → SmallAll (causes_of (content_defects f i))
-unfolding content_defects every flat_map
+unfolding content_defects every causes_of
 content_small f zero h = refl
 content_small f (suc i) h =
     let b = block_at f (suc i) in
@@ -174,7 +173,7 @@ content_small f (suc i) h =
     (records_small (suc i) h (doors_in f) 1 (last_before f (suc i)) records)
 
 blocks_small : (f : List ℕ) (is : List ℕ) → ((i : ℕ) → Memᴰ i is → i < max_blocks) → SmallAll (causes_of (flat_map (block_defects f) is))
-unfolding every flat_map
+unfolding every causes_of flat_map
 blocks_small f [] h = refl
 blocks_small f (i ∷ is) h =
     let few = h i (Memᴰ.head refl) in
@@ -183,7 +182,7 @@ blocks_small f (i ∷ is) h =
     (blocks_small f is (λ j m. h j (Memᴰ.tail m)))
 
 pub file_small : (f : List ℕ) (others : List Cause) → SmallAll others → SmallFirst (file_causes f ++ others)
-unfolding file_causes file_defects flat_map
+unfolding file_causes file_defects flat_map causes_of
 file_small f others small =
     small_first _ _ (lit< tt)
     (λ right.
@@ -200,7 +199,7 @@ load_fits w f = call_fits Fits fault-fits _ w [] _ (small_first _ _ (lit< tt) (�
 abbrev Numbered : List Grant → Type 0
 Numbered gs = (g : Grant) → Memᴰ g gs → g.number < word_values
 
-difference_fits : (gs hs : List Grant) → Numbered gs → Numbered hs → Fits (matched_answer (first_difference gs hs))
+difference_fits : (gs hs : List Grant) → Numbered gs → Numbered hs → Fits (matched_answer (Ok (first_difference gs hs)))
 unfolding first_difference
 difference_fits [] [] p q = lit< tt
 difference_fits [] (h ∷ hs) p q = omega (arith, q h (Memᴰ.head refl))
@@ -208,8 +207,8 @@ difference_fits (g ∷ gs) [] p q = omega (arith, p g (Memᴰ.head refl))
 difference_fits (g ∷ gs) (h ∷ hs) p q =
     go (same_grant g h) (difference_fits gs hs (λ x m. p x (Memᴰ.tail m)) (λ x m. q x (Memᴰ.tail m)))
   where
-    go : (same : Bool) → Fits (matched_answer (first_difference gs hs))
-        → Fits (matched_answer (cond same (first_difference gs hs) (matched.Differs (min g.number h.number))))
+    go : (same : Bool) → Fits (matched_answer (Ok (first_difference gs hs)))
+        → Fits (matched_answer (Ok (cond same (first_difference gs hs) (Some (min g.number h.number)))))
     go true later = later
     go false later = omega (arith, p g (Memᴰ.head refl))
 
@@ -241,7 +240,7 @@ block_inside f i e =
     record { whole = (wrong_block_count_iff f).0 both.0; inside = leb-false (blocks_in f) i both.1 }
 
 rest_small : (f : List ℕ) (i : ℕ) → i < max_blocks → SmallAll (causes_of (rest_defects f i))
-unfolding rest_defects every flat_map
+unfolding rest_defects every causes_of
 rest_small f zero h = refl
 rest_small f (suc i) h = layout_small (suc i) h (block_at f (suc i)) (wrong_count f (suc i))
 

@@ -17,7 +17,7 @@ use mathlib.Core.Path.{◌≡◌, refl, sym, ap, subst}
 use mathlib.Core.Bool.{true, false}
 use mathlib.Core.List.Memᴰ
 use mathlib.Core.List.{List, [], ◌∷◌, Memᴰ}
-use mathlib.Core.Option.{none}
+use Rattle.std.proofs.Common.{None}
 use native.Mathlib.Omega.{arith}
 use lib.Dec.{T, ltb}
 use lib.ListN.{length, get_or, replicate}
@@ -121,7 +121,7 @@ memory-met = record { some = omega arith; few = omega arith; long = refl }
 pub doors-met : DoorRange doors
 doors-met = record { order = omega arith; fits = omega arith }
 
-none-met : (g : Grant) → first_fault (request_causes (request_of g)) ≡ none → NoneOf (request_causes (request_of g))
+none-met : (g : Grant) → first_fault (request_causes (request_of g)) ≡ None → NoneOf (request_causes (request_of g))
 none-met g e = (none_of_iff (request_causes (request_of g))).1 e
 
 pub set-met : FileSet doors grants

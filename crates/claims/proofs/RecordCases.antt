@@ -9,6 +9,7 @@ use mathlib.Core.Path.{◌≡◌, refl}
 use mathlib.Core.Bool.{false}
 use mathlib.Core.List.{List, [], ◌∷◌, ◌++◌}
 use lib.ListN.{replicate}
+use Rattle.std.proofs.Common.{Option, None, Some, Ok, Err}
 use Rattle.lists.specs.Tests.{filter, any}
 use Rattle.lists.specs.Ranges.{count_from}
 use Rattle.lists.specs.Total.{total}
@@ -19,8 +20,8 @@ use Rattle.model.specs.declared.Fault.TheVariants.{BadOpeningsLength, UnorderedQ
 use Rattle.model.specs.Answer.{Answer, accepted, refusal}
 use Rattle.model.specs.Refusal.{first_fault, refusing}
 use Rattle.openings.specs.declared.Opening.{Opening}
-use Rattle.openings.specs.declared.RecordDefect.TheVariants.{Sound, NotWhole, TooMany, Unordered}
-use Rattle.openings.specs.declared.LeftEntry.TheVariants.{At, None}
+use Rattle.openings.specs.declared.RecordDefect.TheVariants.{NotWhole, TooMany, Unordered}
+use Rattle.openings.specs.declared.LeftEntry.{LeftEntry}
 use Rattle.openings.specs.First.{first_passing}
 use Rattle.openings.specs.Entry.{entries_of}
 use Rattle.openings.specs.Record.{wrong_size, unordered}
@@ -80,27 +81,30 @@ pub refusal_cases : (answer cut [] ≡ refusal BadOpeningsLength)
 unfolding compare_call refusing openings_order first_fault wrong_size unordered any count_from key_at big_endian
 refusal_cases = (refl, refl, refl, refl, refl, refl, refl)
 
-pub defect_cases : (openings_defect [] ≡ Sound)
-    × (openings_defect once ≡ Sound)
-    × (openings_defect cut ≡ NotWhole 7)
-    × (openings_defect (once ++ (0 ∷ [])) ≡ NotWhole 25)
-    × (openings_defect falling ≡ Unordered 2 256 255)
-    × (openings_defect (once ++ falling ++ falling) ≡ Unordered 5 256 255)
-    × (openings_defect (entry 1 5 3 ++ once ++ entry 1 88 3) ≡ Unordered 5 89 88)
+pub defect_cases : (openings_defect [] ≡ Ok tt)
+    × (openings_defect once ≡ Ok tt)
+    × (openings_defect cut ≡ Err (NotWhole 7))
+    × (openings_defect (once ++ (0 ∷ [])) ≡ Err (NotWhole 25))
+    × (openings_defect falling ≡ Err (Unordered 2 256 255))
+    × (openings_defect (once ++ falling ++ falling) ≡ Err (Unordered 5 256 255))
+    × (openings_defect (entry 1 5 3 ++ once ++ entry 1 88 3) ≡ Err (Unordered 5 89 88))
     × (wrong_size (replicate 32768 0) ≡ false)
-    × (openings_defect (replicate 32776 0) ≡ TooMany 4097)
+    × (openings_defect (replicate 32776 0) ≡ Err (TooMany 4097))
 unfolding openings_defect first_passing wrong_size key_at big_endian
 defect_cases = (refl, refl, refl, refl, refl, refl, refl, refl, refl)
 
 abbrev opening : ℕ → ℕ → ℕ → Opening
 opening d q s = record { door = d; quarter = q; staff = s }
 
-pub left_cases_lem : (left_from thrice once 0 ≡ At 2 (opening 7 88 301))
-    × (left_from thrice once 2 ≡ At 3 (opening 12 88 300))
-    × (left_from thrice once 3 ≡ At 4 (opening 12 88 300))
+abbrev is_left_at : ℕ → ℕ → ℕ → ℕ → Option LeftEntry
+is_left_at n d q s = Some (record { number = n; opening = opening d q s })
+
+pub left_cases_lem : (left_from thrice once 0 ≡ is_left_at 2 7 88 301)
+    × (left_from thrice once 2 ≡ is_left_at 3 12 88 300)
+    × (left_from thrice once 3 ≡ is_left_at 4 12 88 300)
     × (left_from thrice once 4 ≡ None)
-    × (left_from once thrice 0 ≡ At 1 (opening 9 88 302))
-    × (left_from once thrice 1 ≡ At 3 (opening 7 89 301))
+    × (left_from once thrice 0 ≡ is_left_at 1 9 88 302)
+    × (left_from once thrice 1 ≡ is_left_at 3 7 89 301)
     × (left_from once thrice 9 ≡ None)
     × (left_from once once 0 ≡ None)
 unfolding left_from first_passing is_left filter count_from entries_of key_at big_endian

@@ -10,6 +10,7 @@ use Prim.Native.Nat.{ℕ}
 use mathlib.Core.Path.{◌≡◌, refl, sym, ap, ap₂, subst, ◌∙◌}
 use mathlib.Core.List.Memᴰ
 use mathlib.Core.List.{List, [], ◌∷◌, map}
+use Rattle.std.proofs.Common.{Option, None, Some}
 use Rattle.model.specs.Call.{Call}
 use Rattle.model.specs.Values.{CallFits, CallsFit}
 use Rattle.model.specs.Refusal.{Step}
@@ -55,13 +56,13 @@ meaning_fits : (line : List ℕ) → MeaningFits (line_meaning line)
 unfolding line_meaning
 meaning_fits line = go (slip_of line) (line-fits [] line)
   where
-    go : (s : Slip) → Fits (call_of s []) → MeaningFits (meaning_of s)
-    go (slip.Grant number rank kind bounds) f = f
-    go (slip.Revoke number) f = f
-    go (slip.List bounds) f = tt
-    go (slip.Decide staff door quarter) f = tt
-    go slip.Count f = tt
-    go slip.Bad f = tt
+    go : (s : Option Slip) → Fits (call_of s []) → MeaningFits (meaning_of s)
+    go (Some (slip.Grant number rank kind bounds)) f = f
+    go (Some (slip.Revoke number)) f = f
+    go (Some (slip.List bounds)) f = tt
+    go (Some (slip.Decide staff door quarter)) f = tt
+    go (Some slip.Count) f = tt
+    go None f = tt
 
 fit_call : (m : Meaning) (calls : List Call) → MeaningFits m → CallsFit calls → CallsFit (call_and m calls)
 fit_call (makes call) calls f rest d (Memᴰ.head e) = subst CallFits (sym e) f

@@ -20,7 +20,7 @@ use Rattle.model.specs.Box.{doors_of}
 use Rattle.model.specs.Grant.{touches}
 use Rattle.model.specs.Call.{Call, grant, revoke, list, decide, count}
 use Rattle.model.specs.Values.{GrantFits, CallFits, CallsFit}
-use Rattle.model.specs.Book.{book_of, taken_for, book_step}
+use Rattle.model.specs.Book.{book_of, book_step}
 use Rattle.model.specs.Histories.{response_of, responses}
 use Rattle.model.proofs.OverlapLaws.{overlap_on_iff}
 use Rattle.model.proofs.BookLaws.{book_list-same, book_decide-same}

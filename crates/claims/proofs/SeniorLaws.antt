@@ -1,7 +1,7 @@
 -- The claim of wide grants (specs/SeniorGrants), from the faults that no live grant and no grant of a file has.
 --   senior_grants
 -- Assumes nothing.
-use Prim.Native.Nat.{ℕ, ◌+◌}
+use Prim.Native.Nat.{ℕ}
 use mathlib.Core.Logic.{◌↔◌}
 use mathlib.Core.Path.{◌≡◌, refl, sym, ap, subst, ◌∙◌}
 use mathlib.Core.Bool.{Bool, true, false, true≢false}

@@ -10,6 +10,7 @@ use mathlib.Core.List.{List}
 use native.Mathlib.Omega.{arith}
 use lib.Dec.{leb, ltb}
 use borrow.Author.Tests.{leb-true, le-leb, ltb-true, lt-ltb}
+use Rattle.std.proofs.Common.{None}
 use Rattle.lists.specs.Tests.{filter}
 use Rattle.lists.proofs.TestLaws.{tests_agree, filter_same}
 use Rattle.model.specs.declared.Grant.{Grant}
@@ -21,6 +22,7 @@ use Rattle.calls.specs.Order.{look_order}
 use Rattle.calls.proofs.Represents.{Represents, represents_pool, represents_live, represents_fits, Hits}
 use Rattle.calls.proofs.QueryLaws.{quarter-found}
 use Rattle.claims.proofs.MadeLaws.{made_represents}
+use Rattle.panel.specs.Answering.{answering}
 use Rattle.panel.specs.Touching.{door_box, at_door_search, grants_touching, placed, touching_at}
 use Rattle.claims.specs.PanelClaims.{at_door, ShowsTouching, TouchingClaim}
 
@@ -55,7 +57,7 @@ module _ {w : List ℕ} {b : Book} (h : Represents w b) where
   pub shows-touching : ShowsTouching w b.live
   unfolding touching_at look_order first_fault
   shows-touching door quarter i =
-      rw (represents_pool h, (found door quarter).whole) (ap (λ (gs : List Grant). placed gs i) (grants-touching door quarter))
+      rw (represents_pool h, (found door quarter).whole) (ap (λ (gs : List Grant). answering None (placed gs i)) (grants-touching door quarter))
 
 pub touching_claim : TouchingClaim
 unfolding TouchingClaim

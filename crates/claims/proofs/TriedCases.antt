@@ -8,12 +8,11 @@
 --   holding_cases  of HoldingCases: how a grant stands to a box, and list's choice
 --   parent_cases   of ParentCases: the parents that calls leave, and 9 by a parent
 --   restored_cases   of RestoredCases: the same grants in another order
-use Prim.Native.Nat.{ℕ, ◌+◌, ◌-◌, ◌*◌, ◌%◌, ◌/◌}
-use mathlib.Core.Bool.{Bool, true, false, cond}
+use Prim.Native.Nat.{ℕ}
 use mathlib.Core.List.{List, [], ◌∷◌, ◌++◌, map, flat_map}
-use mathlib.Core.Option.{Option, none, some}
+use Rattle.std.proofs.Common.{Option, None, Some}
 use lib.Dec.{T}
-use lib.ListN.{length, take, drop, get_or, set, replicate}
+use lib.ListN.{take, drop, set, replicate}
 use Rattle.lists.specs.Tests.{filter, every, any, each, same_numbers}
 use Rattle.lists.specs.Ranges.{count_from}
 use Rattle.lists.specs.Overwrite.{overwrite}
@@ -26,22 +25,21 @@ use Rattle.model.specs.Interval.{Interval}
 use Rattle.model.specs.Overlap.{overlaps}
 use Rattle.model.specs.Relation.{holds_box, relation_of, takes}
 use Rattle.model.specs.Grant.{grant_values, same_grant, touches}
-use Rattle.model.specs.Answer.{Answer}
-use Rattle.model.specs.Refusal.{Step, first_fault, refusing}
+use Rattle.model.specs.Refusal.{first_fault, refusing}
 use Rattle.model.specs.Arguments.{reversed_box}
 use Rattle.model.specs.Decide.{outranks, deciding_of, decide_among}
 use Rattle.model.specs.Fault.{fault_number, fault_values}
 use Rattle.model.specs.Call.{Request, Call, grant, revoke, list, decide, count}
-use Rattle.model.specs.Book.{Book, empty_book, book_grant, book_revoke, book_list, book_decide, book_count, book_step}
+use Rattle.model.specs.Book.{empty_book, book_grant, book_revoke, book_list, book_decide, book_count, book_step}
 use Rattle.geometry.specs.declared.Side.TheVariants as side
 use Rattle.geometry.specs.Region.{low, high, root_region, half, meets}
 use Rattle.geometry.specs.Point.{point_of, inside}
-use Rattle.geometry.specs.SearchRange.{range_of_box, range_of_doors, range_of_number, range_of_all}
+use Rattle.geometry.specs.SearchRange.{range_of_box, range_of_doors, range_of_number}
 use Rattle.pool.specs.Layout.{place, field_of}
 use Rattle.pool.specs.Capacity.{capacity_of, wrong_length, wrong_pool}
-use Rattle.pool.specs.Cell.{grant_at, cell_of, with_cell}
+use Rattle.pool.specs.Cell.{grant_at, with_cell}
 use Rattle.pool.specs.Fresh.{free_cells, fresh_pool}
-use Rattle.adt.specs.Search.{Search, broken, going, meet, visit_by, enter, search_by}
+use Rattle.adt.specs.Search.{meet, visit_by, enter, search_by}
 use Rattle.adt.specs.Insert.{descend_from, descend, free_broken, inserted}
 use Rattle.adt.specs.Remove.{follow, terminal_from, replaced, reparented, raised, unlinked, freed, removed}
 use Rattle.adt.specs.Links.{broken_by, search_from, insertion_from, removal_from, search_links, insertion_links, removal_links, free_links, hits_among}
@@ -50,7 +48,7 @@ use Rattle.grants_file.specs.Record.{encode_record, decode_record}
 use Rattle.grants_file.specs.Block.{sealed, header_block, record_block, records_of, wrong_checksum, wrong_padding}
 use Rattle.grants_file.specs.File.{file_of, wrong_block_count, doors_in, grants_in}
 use Rattle.grants_file.specs.Defects.{records_defects, last_before, content_defects, file_defects}
-use Rattle.grants_file.specs.Verdict.{file_causes}
+use Rattle.grants_file.specs.Verdict.{causes_of, file_causes}
 use Rattle.block_read.specs.BlockRead.{not_in_file, wrong_count, rest_defects, read_causes, part_of, block_call}
 use Rattle.calls.specs.Causes.{grant_broken, revoke_broken}
 use Rattle.calls.specs.LinkCauses.{search_meets9, point_meets9, hits_by, grant_meets9, revoke_meets9}
@@ -141,8 +139,8 @@ two =
 
 -- the doors and grants of an accepted file, or the fault of a refused one
 abbrev verdict_by : List ℕ → Option Fault → List ℕ
-verdict_by f none = 0 ∷ (doors_in f).from ∷ (doors_in f).to ∷ flat_map grant_values (grants_in f)
-verdict_by f (some fault) = fault_number fault ∷ fault_values fault
+verdict_by f None = 0 ∷ (doors_in f).from ∷ (doors_in f).to ∷ flat_map grant_values (grants_in f)
+verdict_by f (Some fault) = fault_number fault ∷ fault_values fault
 
 abbrev verdict_numbers : List ℕ → List ℕ
 verdict_numbers f = verdict_by f (first_fault (file_causes f))
@@ -279,8 +277,8 @@ deep_cases_lem : T (passed deep_cases)
 unfolding filter every any each same_numbers count_from overlaps holds_box relation_of takes first_fault refusing reversed_box outranks deciding_of decide_among
     root_region half meets point_of inside range_of_box range_of_number place field_of capacity_of wrong_length wrong_pool grant_at meet visit_by enter
     search_by descend_from descend free_broken follow terminal_from broken_by search_from insertion_from removal_from search_links insertion_links removal_links
-    free_links hits_among search_meets9 point_meets9 hits_by grant_meets9 revoke_meets9 grant_broken revoke_broken grant_order revoke_order list_order look_order
-    grant_call revoke_call list_call decide_call count_call
+    free_links hits_among search_meets9 point_meets9 hits_by grant_meets9 revoke_meets9 grant_broken revoke_broken grant_order revoke_order list_order
+    look_order grant_call revoke_call list_call decide_call count_call
 deep_cases_lem = tt
 
 abbrev others : List Case
@@ -295,8 +293,8 @@ unfolding filter every any each same_numbers count_from overwrite insert_by sort
     search_links insertion_links removal_links free_links hits_among search_meets9 point_meets9 hits_by grant_meets9 revoke_meets9 grant_broken revoke_broken
     start_order grant_order revoke_order list_order look_order start_call grant_call revoke_call list_call decide_call count_call words_step responses after
     base256 checksum encode_record decode_record sealed header_block record_block records_of wrong_checksum wrong_padding file_of grants_in wrong_block_count
-    records_defects last_before content_defects file_defects file_causes not_in_file wrong_count rest_defects read_causes part_of write_order load_order match_order
-    write_call grant_all load_call first_difference match_call block_call mathlib.Core.List.flat_map
+    records_defects last_before content_defects file_defects causes_of file_causes not_in_file wrong_count rest_defects read_causes part_of
+    write_order load_order match_order write_call grant_all load_call first_difference match_call block_call mathlib.Core.List.flat_map
 other_cases = tt
 
 pub tried_cases : T (passed (deep_cases ++ others))

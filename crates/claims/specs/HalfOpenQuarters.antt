@@ -3,7 +3,7 @@
 --   HalfOpenQuarters          two ranges overlap exactly where both cover a quarter, fault 2 is given to the boxes in which no point lies, decide
 --                             goes by the grants in which its point lies, and files carry the mark of this reading
 -- Assumes nothing: these are definitions.
-use Rattle.std.specs.Prelude.{ℕ, ◌<◌, ◌↔◌, ◌≡◌, true, false, cond, T, take}
+use Rattle.std.specs.Prelude.{ℕ, ◌<◌, ◌↔◌, ◌≡◌, true, false, cond, T, take, Ok}
 use mathlib.Core.List.{List, Memᴰ}
 use Rattle.model.specs.declared.Box.{Box}
 use Rattle.model.specs.declared.Grant.{Grant}
@@ -35,10 +35,10 @@ pub record HalfOpenQuarters : Type 0 where
   pub points : (b : Box) (staff door quarter : ℕ) → Overlap b (point_box staff door quarter) ↔ LiesIn b staff door quarter
   -- on pools that calls made, the point lies in the grant that decides
   pub decides : (c : ℕ) (w : List ℕ) (gs : List Grant) → Made c w gs → (staff door quarter : ℕ) (g : Grant)
-      → (decide_call w staff door quarter).answer ≡ decision_answer (decision_of g.kind g) → LiesIn g.bounds staff door quarter
+      → (decide_call w staff door quarter).answer ≡ decision_answer (Ok (decision_of g.kind g)) → LiesIn g.bounds staff door quarter
   -- on any words, the highest quarter has none, unless the pool gives 1
   pub last : (w : List ℕ) (staff door : ℕ)
-      → (decide_call w staff door top_quarter).answer ≡ cond (wrong_pool w) (refusal BadPool) (decision_answer decision.None)
+      → (decide_call w staff door top_quarter).answer ≡ cond (wrong_pool w) (refusal BadPool) (decision_answer (Ok decision.None))
   -- every live grant, and every grant of an accepted file, covers a quarter
   pub live : (c : ℕ) (w : List ℕ) (gs : List Grant) → Made c w gs → (g : Grant) → Memᴰ g gs → g.bounds.quarter_from < g.bounds.quarter_to
   pub filed : (f : List ℕ) → Below byte_values f → Accepted f → (g : Grant) → Memᴰ g (grants_in f)

@@ -9,7 +9,7 @@
 --   NeverBroken w        no call gives 1 or 9
 --   KeepsGrants c w gs   all of it, the tree, and the plain book's responses to every list of calls
 -- Assumes nothing: these are definitions.
-use Rattle.std.specs.Prelude.{ℕ, ◌≤◌, ◌<◌, ◌↔◌, ◌≢◌, ◌≡◌, T, length, get_or, take}
+use Rattle.std.specs.Prelude.{ℕ, ◌≤◌, ◌<◌, ◌↔◌, ◌≢◌, ◌≡◌, T, length, get_or, take, Ok}
 use mathlib.Core.List.{List, [], ◌∷◌, Memᴰ}
 use Rattle.lists.specs.Tests.{filter}
 use Rattle.lists.specs.Overwrite.{overwrite}
@@ -61,8 +61,8 @@ DecidesAmong w gs =
     (staff door quarter : ℕ)
     → let answer = (decide_call w staff door quarter).answer in
     let q = point_box staff door quarter in
-    ((answer ≡ decision_answer decision.None) ↔ ((g : Grant) → Memᴰ g gs → Overlap g.bounds q → ⊥))
-    × ((g : Grant) → Decides gs q g ↔ (answer ≡ decision_answer (decision_of g.kind g)))
+    ((answer ≡ decision_answer (Ok decision.None)) ↔ ((g : Grant) → Memᴰ g gs → Overlap g.bounds q → ⊥))
+    × ((g : Grant) → Decides gs q g ↔ (answer ≡ decision_answer (Ok (decision_of g.kind g))))
 
 abbrev pub touching : Interval → List Grant → List Grant
 touching doors gs = filter (touches doors) gs

@@ -2,7 +2,7 @@
 --   Compares door panel a d p    the answer: a agree, d are left in the door record, p in the panel record
 --   ComparesOpenings             what the three numbers are, and which entries are left
 -- Assumes nothing: these are definitions.
-use Rattle.std.specs.Prelude.{ℕ, ◌+◌, ◌-◌, ◌*◌, ◌<◌, ◌≤◌, min, ◌↔◌, ◌≡◌, true, false, List, [], ◌∷◌, eqb, length, get_or, take, drop}
+use Rattle.std.specs.Prelude.{ℕ, ◌+◌, ◌-◌, ◌*◌, ◌<◌, ◌≤◌, min, ◌↔◌, ◌≡◌, true, false, List, [], ◌∷◌, eqb, length, get_or, take, drop, None, Some}
 use Rattle.lists.specs.Tests.{filter}
 use Rattle.multisets.specs.Multiplicity.{count}
 use Rattle.multisets.specs.Agreement.{is_left, left_places}
@@ -10,7 +10,6 @@ use Rattle.model.specs.declared.Fault.{Fault}
 use Rattle.model.specs.Answer.{accepted, refusal}
 use Rattle.model.specs.Values.{byte_values, Below}
 use Rattle.openings.specs.declared.Opening.{Opening}
-use Rattle.openings.specs.declared.LeftEntry.TheVariants.{At, None}
 use Rattle.openings.specs.Entry.{entry_bytes, entry_door, entry_quarter, entry_staff, entries_in, entry_at, entries_of}
 use Rattle.openings.specs.Compare.{compare_call}
 use Rattle.openings.specs.Left.{left_from, FirstLeft}
@@ -51,5 +50,5 @@ pub record ComparesOpenings : Type 0 where
   pub left-last : (r s : List ℕ) (i j : ℕ) → i ≤ j → get_or (entries_of r) i 0 ≡ get_or (entries_of r) j 0
       → is_left (entries_of r) (entries_of s) i ≡ true → is_left (entries_of r) (entries_of s) j ≡ true
   -- one after the other, from any place on
-  pub next : (r s : List ℕ) (k i : ℕ) (o : Opening) → left_from r s k ≡ At i o → FirstLeft r s k i o
+  pub next : (r s : List ℕ) (k i : ℕ) (o : Opening) → left_from r s k ≡ Some (record { number = i; opening = o }) → FirstLeft r s k i o
   pub ends : (r s : List ℕ) (k : ℕ) → left_from r s k ≡ None → (j : ℕ) → k ≤ j → j < entries_in r → is_left (entries_of r) (entries_of s) j ≡ false

@@ -4,7 +4,7 @@
 --   TouchingClaim            so does every pool that start, or load of an accepted file, and any calls after it made
 -- How far a grant stands is said in plain words by HasPrecedence of precedence/specs/Precedence, which precedence/proofs/PrecedenceLaws joins to `precedence`.
 -- Assumes nothing: these are definitions.
-use Rattle.std.specs.Prelude.{ℕ, ◌≡◌, Bool, ◌&&◌, List}
+use Rattle.std.specs.Prelude.{ℕ, ◌≡◌, Bool, ◌&&◌, List, Ok}
 use Rattle.lists.specs.Tests.{filter}
 use Rattle.model.specs.declared.Grant.{Grant}
 use Rattle.model.specs.Interval.{holds}
@@ -17,7 +17,7 @@ abbrev pub at_door : ℕ → ℕ → Grant → Bool
 at_door door quarter g = holds (doors_of g.bounds) door && covers (quarters_of g.bounds) quarter
 
 abbrev pub ShowsTouching : List ℕ → List Grant → Type 0
-ShowsTouching w live = (door quarter i : ℕ) → touching_at w door quarter i ≡ placed (filter (at_door door quarter) live) i
+ShowsTouching w live = (door quarter i : ℕ) → touching_at w door quarter i ≡ Ok (placed (filter (at_door door quarter) live) i)
 
 unfoldable pub TouchingClaim : Type 0
 TouchingClaim = (c : ℕ) (w : List ℕ) (gs : List Grant) → Made c w gs → ShowsTouching w gs

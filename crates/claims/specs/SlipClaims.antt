@@ -4,8 +4,7 @@
 --                 good and bad, prints what the empty book of c prints
 --   SlipsTouch    a slip's L stands for list under touching; `session_text` goes by it, for the words and for the book
 -- A line is any list of numbers, so any bytes; the contract of `answer` says that the code prints a line's `line_step` with `words_step`.
-use Rattle.std.specs.Prelude.{ℕ, ◌≡◌, List}
-use Rattle.std.proofs.Math.Option.{some}
+use Rattle.std.specs.Prelude.{ℕ, ◌≡◌, List, Some}
 use Rattle.model.specs.declared.Box.{Box}
 use Rattle.model.specs.declared.Choice.TheVariants.{Touching}
 use Rattle.model.specs.Call.{list}
@@ -22,4 +21,4 @@ SlipsPrint =
     → session_text words_step (start_call memory).state lent lines ≡ session_text book_step (empty_book c) lent lines
 
 unfoldable pub SlipsTouch : Type 0
-SlipsTouch = (bounds : Box) (lent : List ℕ) → call_of (slip.List bounds) lent ≡ some (list bounds Touching lent)
+SlipsTouch = (bounds : Box) (lent : List ℕ) → call_of (Some (slip.List bounds)) lent ≡ Some (list bounds Touching lent)

@@ -1,16 +1,13 @@
 // The panel's screens of the grants that hold a shift: one of the staff at one door, from a quarter until another. Where list refuses it,
 // with 2 or 9, the refusal is shown in words below the box, and no row.
-ghost use Rattle.std.specs.Prelude.{◌≡◌, ◌≤◌, min};
-
 use crate::common::{say_fault, say_moment};
-use crate::shown::{Pending, SCREEN, Shown, none_shown, say_more};
+use crate::shown::{Asked, Bank, Pending, SCREEN, say_more};
 use crate::table::{say_grant, say_heads};
-use calendar::Base;
-use console::output::{Stream, answers, put, put_number};
-use file_contents::GrantLookup;
+use console::output::{Stream, Unwritten};
 use file_contents::lookup::numbered;
-use model::{Box, Choice, Fault, Listed, MAX_GRANTS};
+use model::{Box, Choice, Fault, MAX_GRANTS};
 use queries::list::list;
+use std::cmp::min;
 
 // A shift as a box: one of the staff at one door, until the first quarter that it no longer covers.
 pub fn shift_box(staff: u16, door: u16, from: u16, to: u16) -> Box {
@@ -25,100 +22,86 @@ pub fn shift_box(staff: u16, door: u16, from: u16, to: u16) -> Box {
 }
 
 // The box that was asked about.
-fn say_box(rt: HostRuntime, base: Base, bounds: Box) -> Stream {
-    let staff = put_number(put(answers(rt), b"staff "), bounds.staff_from as usize);
-    let door = put_number(put(staff, b", door "), bounds.door_from as usize);
-    let from = say_moment(put(door, b", from quarter "), base, bounds.quarter_from);
-    let until = say_moment(put(from, b" until quarter "), base, bounds.quarter_to);
-    put(until, b"\n")
+fn say_box(out: Stream, bank: Bank, bounds: Box) -> Result<(), Unwritten> {
+    write!(
+        out,
+        "staff {}, door {}, from quarter ",
+        bounds.staff_from, bounds.door_from
+    )?;
+    say_moment(out, bank.base, bounds.quarter_from)?;
+    out.put(b" until quarter ")?;
+    say_moment(out, bank.base, bounds.quarter_to)?;
+    out.put(b"\n")
 }
 
 // How many grants there were, once all have been shown.
-fn say_total(out: Stream, rows: usize) -> Stream {
+fn say_total(out: Stream, rows: usize) -> Result<(), Unwritten> {
     if rows == 0 {
-        return put(out, b"no grant holds all of it\n\n");
+        return out.put(b"no grant holds all of it\n\n");
     }
-    let counted = put(put_number(out, rows), b" in all\n");
-    put(
-        counted,
+    write!(out, "{rows} in all\n")?;
+    out.put(
         b"a higher grant may decide otherwise for some or all of it; may tells, a quarter at a time\n\n",
     )
 }
 
-// The heads, above the first row.
-fn say_first(rt: HostRuntime, rows: usize, total: usize) -> Stream {
-    if 0 < rows {
-        return answers(rt);
+// A row for each number that the pool has. A pool that is the file's has no number that the file hasn't.
+fn say_numbers(out: Stream, file: &[u8], numbers: &[u16]) -> Result<(), Unwritten> {
+    for &number in numbers {
+        match numbered(file, number) {
+            Some(grant) => say_grant(out, grant)?,
+            None => say_fault(out, Fault::BrokenLinks)?,
+        }
     }
-    if total == 0 {
-        return answers(rt);
-    }
-    say_heads(answers(rt))
+    Ok(())
 }
 
-// The grant of a number that the pool has. A pool that is the file's has no number that the file hasn't.
-fn say_numbered(out: Stream, file: &[u8], number: u16) -> Stream {
-    let found = numbered(file, number);
-    match found {
-        GrantLookup::Is(g) => say_grant(out, g),
-        GrantLookup::Absent => say_fault(out, Fault::BrokenLinks),
-    }
-}
-
-// A row for each number.
-fn say_numbers(out: Stream, file: &[u8], numbers: &[u16]) -> Stream {
-    let mut shown = out;
-    let mut i: usize = 0;
-    while i < numbers.len() {
-        shown = say_numbered(shown, file, numbers[i]);
-        i += 1;
-    }
-    shown
-}
-
-fn least(a: usize, b: usize) -> usize
-    ensures value { result ≡ min a b }
-    ensures upper_bound { (result ≤ a) × (result ≤ b) }
-{
-    if a < b { a } else { b }
-}
-
-// A screenful of rows, from the first that has not been shown, of the grants with these numbers, which are so many.
+// A screenful of rows, from the first that has not been shown, of the grants with these numbers. Gives what is left to show.
 fn say_screen(
-    rt: HostRuntime,
+    out: Stream,
     file: &[u8],
     numbers: &[u16],
-    count: usize,
     bounds: Box,
-    shown: usize,
-) -> Shown {
-    let total = least(count, numbers.len());
-    let from = least(shown, total);
-    let to = from + least(SCREEN, total - from);
-    let out = say_numbers(say_first(rt, from, total), file, &numbers[from..to]);
-    if !out.whole {
-        return none_shown(false);
+    rows: usize,
+) -> Result<Option<Pending>, Unwritten> {
+    let total = numbers.len();
+    let from = min(rows, total);
+    let to = from + min(SCREEN, total - from);
+    if from == 0 && 0 < total {
+        say_heads(out)?;
     }
+    say_numbers(out, file, &numbers[from..to])?;
     if to < total {
-        return say_more(rt, Pending::Covers(bounds), to);
+        return say_more(out, Asked::Covers(bounds), to);
     }
-    none_shown(say_total(out, total).whole)
+    say_total(out, total)?;
+    Ok(None)
 }
 
 // The same, of the grants that hold the box.
-pub fn say_holding(rt: HostRuntime, pool: &[u16], file: &[u8], bounds: Box, shown: usize) -> Shown {
+pub fn say_holding(
+    out: Stream,
+    bank: Bank,
+    bounds: Box,
+    rows: usize,
+) -> Result<Option<Pending>, Unwritten> {
     let mut numbers = [0u16; MAX_GRANTS];
-    let listed = list(pool, bounds, Choice::Holding, &mut numbers);
-    match listed {
-        Listed::Count(n) => say_screen(rt, file, &numbers, n, bounds, shown),
-        Listed::Refused(f) => none_shown(put(say_fault(answers(rt), f), b"\n").whole),
+    match list(bank.pool, bounds, Choice::Holding, &mut numbers) {
+        Ok(n) => {
+            // n is within the list that was lent, which list does not promise by a bound.
+            let held = &numbers[..min(n, MAX_GRANTS)];
+            say_screen(out, bank.file, held, bounds, rows)
+        }
+        Err(fault) => {
+            say_fault(out, fault)?;
+            out.put(b"\n")?;
+            Ok(None)
+        }
     }
 }
 
 // The box, and the first screenful.
-pub fn say_covers(rt: HostRuntime, pool: &[u16], file: &[u8], base: Base, bounds: Box) -> Shown {
-    if !say_box(rt, base, bounds).whole {
-        return none_shown(false);
-    }
-    say_holding(rt, pool, file, bounds, 0)
+pub fn say_covers(out: Stream, bank: Bank, bounds: Box) -> Result<Option<Pending>, Unwritten> {
+    say_box(out, bank, bounds)?;
+    say_holding(out, bank, bounds, 0)
 }

@@ -1,76 +1,51 @@
 // What the commands of the program are, and how each is used: `grants help`.
-use crate::pages::{
-    say_all, say_check, say_cut, say_match, say_openings, say_panel, say_path, say_show, say_slips,
-};
+use crate::pages::{ALL, CHECK, CUT, MATCH, OPENINGS, PATH, SHOW, SLIPS, say_panel};
 use console::arguments::{are, given, text_at};
 use console::names::warn_name;
-use console::output::{Stream, warn};
+use console::output::{answers, warn};
 use console::status::{Ending, answered};
 
 // A longer name is not said again.
 const LONGEST_SAID: usize = 64;
 
 fn warn_unknown(rt: HostRuntime, command: &[u8]) {
-    if LONGEST_SAID < command.len() {
-        warn(
-            rt,
-            b"grants: there is no such command; these are the commands:\n",
-        );
-        return;
+    if command.is_empty() || LONGEST_SAID < command.len() {
+        warn(rt, b"grants: there is no such command");
+    } else {
+        warn(rt, b"grants: there is no command ");
+        warn_name(rt, command);
     }
-    if command.len() == 0 {
-        warn(
-            rt,
-            b"grants: there is no such command; these are the commands:\n",
-        );
-        return;
-    }
-    warn(rt, b"grants: there is no command ");
-    warn_name(rt, command);
     warn(rt, b"; these are the commands:\n");
 }
 
 // A name that is no command.
 pub fn unknown(rt: HostRuntime, command: &[u8]) -> Ending {
     warn_unknown(rt, command);
-    say_all(rt);
+    no_command(rt)
+}
+
+// No command was given.
+pub fn no_command(rt: HostRuntime) -> Ending {
+    let _ = answers(rt).put(ALL);
     Ending::Failed
 }
 
-fn paged(out: Stream) -> Ending {
-    answered(out, Ending::Done)
-}
-
-// The page of a command.
+// The page of a command. A match and no table, which would have a function or a text in it: no plainer.
 fn page(rt: HostRuntime, command: &[u8]) -> Ending {
-    if command == b"slips".as_slice() {
-        return paged(say_slips(rt));
-    }
-    if command == b"panel".as_slice() {
-        return paged(say_panel(rt));
-    }
-    if command == b"cut".as_slice() {
-        return paged(say_cut(rt));
-    }
-    if command == b"match".as_slice() {
-        return paged(say_match(rt));
-    }
-    if command == b"openings".as_slice() {
-        return paged(say_openings(rt));
-    }
-    if command == b"check".as_slice() {
-        return paged(say_check(rt));
-    }
-    if command == b"show".as_slice() {
-        return paged(say_show(rt));
-    }
-    if command == b"path".as_slice() {
-        return paged(say_path(rt));
-    }
-    if command == b"help".as_slice() {
-        return paged(say_all(rt));
-    }
-    unknown(rt, command)
+    let out = answers(rt);
+    let said = match command {
+        b"panel" => say_panel(out),
+        b"slips" => out.put(SLIPS),
+        b"cut" => out.put(CUT),
+        b"match" => out.put(MATCH),
+        b"openings" => out.put(OPENINGS),
+        b"check" => out.put(CHECK),
+        b"show" => out.put(SHOW),
+        b"path" => out.put(PATH),
+        b"help" => out.put(ALL),
+        _ => return unknown(rt, command),
+    };
+    answered(said, Ending::Done)
 }
 
 // All commands, or the page of the one after `help`.
@@ -79,15 +54,8 @@ pub fn help(rt: HostRuntime) -> Ending {
         return Ending::Failed;
     }
     if given(rt) < 2 {
-        return paged(say_all(rt));
+        return answered(answers(rt).put(ALL), Ending::Done);
     }
-    let mut asked = [0u8; 4096];
-    let length = text_at(rt, 2, &mut asked);
-    page(rt, &asked[..length])
-}
-
-// No command was given.
-pub fn no_command(rt: HostRuntime) -> Ending {
-    say_all(rt);
-    Ending::Failed
+    let mut lent = [0u8; 4096];
+    page(rt, text_at(rt, 2, &mut lent))
 }

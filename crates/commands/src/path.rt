@@ -4,72 +4,68 @@ use crate::head_office::{open, replay_on};
 use crate::replaced::is_marked;
 use crate::report::refuse;
 use crate::table::say_heads;
+use atomic_file::first;
 use atomic_file::reading::read_on;
-use atomic_file::{Read, first};
 use console::arguments::{are, name_at};
 use console::names::warn_unread;
-use console::output::{Stream, answers, put, warn};
-use console::status::{Ending, answered};
+use console::output::{Stream, Unwritten, answers, warn};
+use console::status::Ending;
 use file_calls::load::load;
 use geometry::axis::LEVELS;
 use grant_path::ancestors::{Ancestor, ancestor_at};
 use grant_path::rows::path_row;
 use grants_file::layout::MAX_BYTES;
-use model::{Grant, Outcome};
-use panel::rows::ROW_BYTES;
+use model::Fault;
 use pool::layout::MAX_WORDS;
-use question::Number;
 use std::fs::File;
 
 // One byte more than the longest bank's file has, so that a longer one is seen to be longer.
 const ROOM: usize = MAX_BYTES + 1;
 
-fn say_cell(out: Stream, cell: u16, level: u16, g: Grant) -> Stream {
-    let mut row = [0u8; ROW_BYTES];
-    let n = path_row(cell, level, g, &mut row);
-    put(out, &row[..n])
+fn say_cell(out: Stream, ancestor: Ancestor) -> Result<(), Unwritten> {
+    out.put(path_row(ancestor.cell, ancestor.level, ancestor.grant).as_slice())
 }
 
-// How rows end after which there is none.
-fn at_end(out: Stream, last: Ancestor) -> Ending {
-    match last {
-        Ancestor::Is { .. } => Ending::Failed,
-        Ancestor::End => answered(out, Ending::Done),
-        Ancestor::Refused(f) => answered(say_fault(out, f), Ending::No),
-    }
+// A refusal in place of a row.
+fn say_refusal(out: Stream, fault: Fault) -> Result<Ending, Unwritten> {
+    say_fault(out, fault)?;
+    Ok(Ending::No)
 }
 
 // A row for each cell, from the grant's own up to the root's: no level is below the last.
-fn say_cells(out: Stream, pool: &[u16], number: u16) -> Ending {
-    let mut shown = out;
-    let mut i: usize = 0;
-    while i <= LEVELS {
-        let row = ancestor_at(pool, number, i);
-        let Ancestor::Is { cell, level, grant } = row else {
-            return at_end(shown, row);
-        };
-        shown = say_cell(shown, cell, level, grant);
-        i += 1;
+fn say_cells(out: Stream, pool: &[u16], number: u16) -> Result<Ending, Unwritten> {
+    for i in 0..=LEVELS {
+        match ancestor_at(pool, number, i) {
+            Ok(Some(ancestor)) => say_cell(out, ancestor)?,
+            Ok(None) => return Ok(Ending::Done),
+            Err(fault) => return say_refusal(out, fault),
+        }
     }
-    answered(shown, Ending::Done)
+    Ok(Ending::Done)
 }
 
 // The heads and the rows, or that there is no such grant.
-fn say_path(rt: HostRuntime, pool: &[u16], number: u16) -> Ending {
-    let own = ancestor_at(pool, number, 0);
-    let Ancestor::Is { .. } = own else {
-        return at_end(answers(rt), own);
-    };
-    let heads = say_heads(put(answers(rt), b"    cell   level"));
-    say_cells(heads, pool, number)
+fn say_path(out: Stream, pool: &[u16], number: u16) -> Result<Ending, Unwritten> {
+    match ancestor_at(pool, number, 0) {
+        Ok(Some(_)) => {
+            out.put(b"    cell   level")?;
+            say_heads(out)?;
+            say_cells(out, pool, number)
+        }
+        Ok(None) => Ok(Ending::Done),
+        Err(fault) => say_refusal(out, fault),
+    }
+}
+
+fn path_in_pool(rt: HostRuntime, pool: &[u16], number: u16) -> Ending {
+    say_path(answers(rt), pool, number).unwrap_or(Ending::Failed)
 }
 
 fn path_in_file(rt: HostRuntime, file: &[u8], number: u16) -> Ending {
     let mut pool = [0u16; MAX_WORDS];
-    let loaded = load(&mut pool, file);
-    match loaded {
-        Outcome::Done => say_path(rt, &pool, number),
-        Outcome::Refused(_) => refuse(rt, file),
+    match load(&mut pool, file) {
+        Ok(()) => path_in_pool(rt, &pool, number),
+        Err(_) => refuse(rt, file),
     }
 }
 
@@ -82,11 +78,10 @@ fn path_in_journal(
     number: u16,
 ) -> Ending {
     let mut pool = [0u16; MAX_WORDS];
-    let replayed = replay_on(rt, file, name, &mut pool, input, read);
-    let Ending::Done = replayed else {
-        return replayed;
-    };
-    say_path(rt, &pool, number)
+    match replay_on(rt, file, name, &mut pool, input, read) {
+        Ok(()) => path_in_pool(rt, &pool, number),
+        Err(ending) => ending,
+    }
 }
 
 // A bank's file is told from a journal by its mark. What was read of a journal until then isn't read again: it may come through a pipe.
@@ -106,47 +101,40 @@ fn path_in_read(
 }
 
 fn path_in(rt: HostRuntime, name: &[u8], number: u16) -> Ending {
-    let Some(mut file) = open(rt, name) else {
-        return Ending::Failed;
+    let mut file = match open(rt, name) {
+        Ok(file) => file,
+        Err(ending) => return ending,
     };
     let mut bytes = [0u8; ROOM];
-    let got = read_on(&mut file, &mut bytes);
-    match got {
-        Read::Bytes(n) => path_in_read(rt, file, name, &mut bytes, n, number),
-        Read::Failed(error) => {
-            warn_unread(rt, name, error);
+    match read_on(&mut file, &mut bytes) {
+        Ok(n) => path_in_read(rt, file, name, &mut bytes, n, number),
+        Err(failure) => {
+            warn_unread(rt, name, failure);
             Ending::Failed
         }
     }
 }
 
 fn path_of(rt: HostRuntime, number: u16) -> Ending {
-    let mut name = [0u8; 4096];
-    let length = name_at(rt, b"FILE", 2, &mut name);
-    if length == 0 {
-        return Ending::Failed;
+    let mut lent = [0u8; 4096];
+    match name_at(rt, b"FILE", 2, &mut lent) {
+        Some(name) => path_in(rt, name, number),
+        None => Ending::Failed,
     }
-    path_in(rt, &name[..length], number)
-}
-
-fn no_number(rt: HostRuntime) -> Ending {
-    warn(
-        rt,
-        b"grants: NUMBER is no grant's number: give one from 1 to 65535\n",
-    );
-    Ending::Failed
 }
 
 pub fn path(rt: HostRuntime) -> Ending {
     if !are(rt, b"path", 3, 3) {
         return Ending::Failed;
     }
-    let given = number_at(rt, 3);
-    let Number::Value(number) = given else {
-        return no_number(rt);
-    };
-    if number == 0 {
-        return no_number(rt);
+    match number_at(rt, 3) {
+        None | Some(0) => {
+            warn(
+                rt,
+                b"grants: NUMBER is no grant's number: give one from 1 to 65535\n",
+            );
+            Ending::Failed
+        }
+        Some(number) => path_of(rt, number),
     }
-    path_of(rt, number)
 }

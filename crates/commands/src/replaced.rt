@@ -1,52 +1,34 @@
 // What may stand where a bank's file is cut: nothing, or a file that `cut` itself would write. Anything else is refused, so that nothing is lost.
-use atomic_file::Read;
-use atomic_file::beside::{FIRST, PAST, is_left};
+use crate::common::warn_file;
+use atomic_file::beside::{FIRST, LAST, is_left};
+use atomic_file::first;
 use atomic_file::known::Facts;
 use atomic_file::reading::read;
-use atomic_file::target::{Target, is_same};
-use atomic_file::writing::Like;
-use console::errors::{EEXIST, ENAMETOOLONG};
-use console::names::warn_name;
+use atomic_file::target::{Target, is_same, target_at};
+use console::errors::Failure;
 use console::output::{warn, warn_reason};
-use grants_file::layout::{BLOCK_BYTES, MAGIC};
+use console::status::Ending;
+use grants_file::layout::{BLOCK_BYTES, CURRENT_FORM, magic_of};
 
 // So many bytes tell a grants file's mark and whether it holds grants: a file of a block alone has none.
 const TOLD: usize = BLOCK_BYTES + 1;
 
-fn refuse(rt: HostRuntime, path: &[u8], reason: &[u8]) -> bool {
-    warn(rt, b"grants: ");
-    warn_name(rt, path);
-    warn(rt, reason);
-    false
-}
-
 // Whether bytes begin with a grants file's mark; its last byte, the form's number, may be another.
 pub fn is_marked(bytes: &[u8]) -> bool {
-    if bytes.len() < 3 {
-        return false;
-    }
-    if bytes[0] != MAGIC[0] {
-        return false;
-    }
-    if bytes[1] != MAGIC[1] {
-        return false;
-    }
-    bytes[2] == MAGIC[2]
+    bytes.starts_with(&magic_of(CURRENT_FORM)[..3])
 }
 
-// What a file holds: nothing; a grants file, and whether it has room for grants; or something else; or it can't be read.
+// What a file holds: no grants, as an empty file or one of a block alone; grants; or something else.
 #[derive(Clone, Copy)]
-pub enum Contents {
-    Nothing,
+enum Contents {
     NoGrants,
     Grants,
     Other,
-    Failed(i32),
 }
 
 fn contents_of(bytes: &[u8]) -> Contents {
-    if bytes.len() == 0 {
-        return Contents::Nothing;
+    if bytes.is_empty() {
+        return Contents::NoGrants;
     }
     if !is_marked(bytes) {
         return Contents::Other;
@@ -57,114 +39,94 @@ fn contents_of(bytes: &[u8]) -> Contents {
     Contents::Grants
 }
 
-fn contents_at(rt: HostRuntime, path: &[u8]) -> Contents {
+fn contents_at(rt: HostRuntime, path: &[u8]) -> Result<Contents, Failure> {
     let mut bytes = [0u8; TOLD];
-    let got = read(rt, path, &mut bytes);
-    match got {
-        Read::Bytes(n) => contents_of(atomic_file::first(&bytes, n)),
-        Read::Failed(error) => Contents::Failed(error),
-    }
+    let n = read(rt, path, &mut bytes)?;
+    Ok(contents_of(first(&bytes, n)))
 }
 
 // Why a file could not be written: what is said of a new file's name alone, or of any file.
-fn warn_why(rt: HostRuntime, error: i32) {
-    if error == EEXIST {
-        warn(
+fn warn_why(rt: HostRuntime, failure: Failure) {
+    match failure {
+        Failure::Exists => warn(
             rt,
             b"all names for a new file are taken: remove the leftovers\n",
-        );
-    } else if error == ENAMETOOLONG {
-        warn(
+        ),
+        Failure::NameTooLong => warn(
             rt,
             b"its name is too long: while it is written it has five bytes more\n",
-        );
-    } else {
-        warn_reason(rt, error);
+        ),
+        _ => warn_reason(rt, failure),
     }
 }
 
-pub fn warn_unwritten(rt: HostRuntime, path: &[u8], error: i32) {
-    warn(rt, b"grants: ");
-    warn_name(rt, path);
-    warn(rt, b" was not written, and nothing was changed: ");
-    warn_why(rt, error);
+// Says that a file could not be written. Gives how the command ends.
+pub fn unwritten(rt: HostRuntime, path: &[u8], failure: Failure) -> Ending {
+    warn_file(rt, path, b" was not written, and nothing was changed: ");
+    warn_why(rt, failure);
+    Ending::Failed
 }
 
-// Whether a file may be replaced that is there.
-fn is_replaceable(rt: HostRuntime, path: &[u8], there: Facts, journal: Facts) -> bool {
-    if is_same(there, journal) {
-        return refuse(
+// Says why a file may not be written. Gives how the command ends.
+fn refuse(rt: HostRuntime, path: &[u8], reason: &[u8]) -> Ending {
+    warn_file(rt, path, reason);
+    Ending::Failed
+}
+
+// A file that is there, if it may be replaced.
+fn replaced_file(
+    rt: HostRuntime,
+    path: &[u8],
+    there: Facts,
+    journal: Option<Facts>,
+) -> Result<Facts, Ending> {
+    if let Some(journal) = journal
+        && is_same(there, journal)
+    {
+        return Err(refuse(
             rt,
             path,
             b" is the journal itself: name another file to write\n",
-        );
+        ));
     }
-    let held = contents_at(rt, path);
-    match held {
-        Contents::Nothing => true,
-        Contents::NoGrants => true,
-        Contents::Grants => true,
-        Contents::Other => refuse(
+    match contents_at(rt, path) {
+        Ok(Contents::NoGrants | Contents::Grants) => Ok(there),
+        Ok(Contents::Other) => Err(refuse(
             rt,
             path,
             b" is there and is no grants file: name another, or remove it first\n",
-        ),
-        Contents::Failed(error) => {
-            warn_unwritten(rt, path, error);
-            false
-        }
+        )),
+        Err(failure) => Err(unwritten(rt, path, failure)),
     }
 }
 
-// Whether a bank's file may be written there; else says why not.
-pub fn is_fit(rt: HostRuntime, path: &[u8], target: Target, journal: Facts) -> bool {
-    match target {
-        Target::New => true,
-        Target::File(there) => is_replaceable(rt, path, there, journal),
-        Target::Link => refuse(rt, path, b" is a link: name the file that it leads to\n"),
-        Target::Special => refuse(
+// The file that a bank's file is to replace, None where there is none; else says why none may be written there.
+pub fn replaced_at(
+    rt: HostRuntime,
+    path: &[u8],
+    journal: Option<Facts>,
+) -> Result<Option<Facts>, Ending> {
+    match target_at(rt, path) {
+        Ok(Target::New) => Ok(None),
+        Ok(Target::File(there)) => Ok(Some(replaced_file(rt, path, there, journal)?)),
+        Ok(Target::Link) => Err(refuse(rt, path, b" is a link: name the file that it leads to\n")),
+        Ok(Target::Special) => Err(refuse(
             rt,
             path,
             b" is a device or a pipe, not a file: name a file\n",
-        ),
-        Target::Failed(error) => {
-            warn_unwritten(rt, path, error);
-            false
-        }
+        )),
+        Err(failure) => Err(unwritten(rt, path, failure)),
     }
 }
 
-// Whether a file that holds grants is there.
-pub fn holds_grants(rt: HostRuntime, path: &[u8], target: Target) -> bool {
-    let Target::File(_) = target else {
-        return false;
-    };
-    let held = contents_at(rt, path);
-    match held {
-        Contents::Grants => true,
-        Contents::Nothing => false,
-        Contents::NoGrants => false,
-        Contents::Other => false,
-        Contents::Failed(_) => false,
-    }
-}
-
-// Whose the new file is to be, and its mode.
-pub fn like_of(target: Target) -> Like {
-    match target {
-        Target::File(there) => Like::Old(there),
-        Target::New => Like::New,
-        Target::Link => Like::New,
-        Target::Special => Like::New,
-        Target::Failed(_) => Like::New,
-    }
+// Whether the file that is there holds grants.
+pub fn holds_grants(rt: HostRuntime, path: &[u8]) -> bool {
+    matches!(contents_at(rt, path), Ok(Contents::Grants))
 }
 
 fn warn_left(rt: HostRuntime, path: &[u8], digit: u8) {
     if is_left(rt, path, digit) {
-        warn(rt, b"grants: ");
-        warn_name(rt, path);
-        warn(rt, b".new");
+        warn_file(rt, path, b".new");
         warn(rt, &[digit]);
         warn(
             rt,
@@ -175,21 +137,14 @@ fn warn_left(rt: HostRuntime, path: &[u8], digit: u8) {
 
 // Says which files are left from cuts that were ended.
 pub fn warn_leftovers(rt: HostRuntime, path: &[u8]) {
-    let mut digit = FIRST;
-    while digit < PAST {
+    for digit in FIRST..=LAST {
         warn_left(rt, path, digit);
-        digit += 1;
     }
 }
 
-// Says that other names of the file keep what they had.
-pub fn warn_names(rt: HostRuntime, path: &[u8], target: Target) {
-    let Target::File(there) = target else {
-        return;
-    };
-    if 1 < there.links {
-        warn(rt, b"grants: ");
-        warn_name(rt, path);
-        warn(rt, b" had other names: they keep the old file\n");
+// Says that other names of a file that was replaced keep what they had.
+pub fn warn_names(rt: HostRuntime, path: &[u8], replaced: Facts) {
+    if 1 < replaced.links {
+        warn_file(rt, path, b" had other names: they keep the old file\n");
     }
 }

@@ -1,39 +1,35 @@
-// An answer in rows, a screenful at a time: what has been shown of it, and which question it answers.
-use console::output::{answers, put};
+// An answer in rows, a screenful at a time: which question it answers, and what has been shown of it.
+use calendar::Date;
+use console::output::{Stream, Unwritten};
 use model::Box;
 
 // So many grants are shown at a time.
 pub const SCREEN: usize = 16;
 
-// The question whose rows haven't all been shown: none, who may open a door in a quarter, or which grants hold a box.
+// What questions are answered from: the bank's file, the pool that it was loaded into, and the base day, if it is known.
 #[derive(Clone, Copy)]
-pub enum Pending {
-    None,
+pub struct Bank<'a> {
+    pub file: &'a [u8],
+    pub pool: &'a [u16],
+    pub base: Option<Date>,
+}
+
+// A question that is answered in rows: who may open a door in a quarter, or which grants hold a box.
+#[derive(Clone, Copy)]
+pub enum Asked {
     Who { door: u16, quarter: u16 },
     Covers(Box),
 }
 
-// How many of its rows have been shown; `whole` where all that was to be shown has been written.
+// An answer whose rows haven't all been shown, and how many have.
 #[derive(Clone, Copy)]
-pub struct Shown {
-    pub whole: bool,
-    pub pending: Pending,
+pub struct Pending {
+    pub asked: Asked,
     pub rows: usize,
 }
 
-pub fn none_shown(whole: bool) -> Shown {
-    Shown {
-        whole,
-        pending: Pending::None,
-        rows: 0,
-    }
-}
-
 // The end of a screen after which there is more.
-pub fn say_more(rt: HostRuntime, pending: Pending, rows: usize) -> Shown {
-    Shown {
-        whole: put(answers(rt), b"more: press Enter\n\n").whole,
-        pending,
-        rows,
-    }
+pub fn say_more(out: Stream, asked: Asked, rows: usize) -> Result<Option<Pending>, Unwritten> {
+    out.put(b"more: press Enter\n\n")?;
+    Ok(Some(Pending { asked, rows }))
 }

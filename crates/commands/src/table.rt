@@ -1,16 +1,12 @@
 // Grants as rows of a table.
-use console::output::{Stream, put};
+use console::output::{Stream, Unwritten};
 use model::Grant;
-use panel::rows::{ROW_BYTES, grant_row, heads_row};
+use panel::rows::{grant_row, heads_row};
 
-pub fn say_heads(out: Stream) -> Stream {
-    let mut row = [0u8; ROW_BYTES];
-    let n = heads_row(&mut row);
-    put(out, &row[..n])
+pub fn say_heads(out: Stream) -> Result<(), Unwritten> {
+    out.put(heads_row().as_slice())
 }
 
-pub fn say_grant(out: Stream, g: Grant) -> Stream {
-    let mut row = [0u8; ROW_BYTES];
-    let n = grant_row(g, &mut row);
-    put(out, &row[..n])
+pub fn say_grant(out: Stream, g: Grant) -> Result<(), Unwritten> {
+    out.put(grant_row(g).as_slice())
 }

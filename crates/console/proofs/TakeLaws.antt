@@ -6,30 +6,12 @@ use mathlib.Core.Bool.{true, false}
 use mathlib.Core.List.{List, [], ◌∷◌, ◌++◌, append-nil}
 use native.Mathlib.Numerals.{add-one}
 use native.Mathlib.Omega.{arith}
-use lib.ListN.{length, take, set, get_or, length-append, length-take}
-use lib.Seq.{length-take-le, take_all, take-append_seam, take-suc-set, append_snoc, slice_empty, slice-cons}
+use lib.ListN.{length, take, get_or, length-append, length-take}
+use lib.Seq.{length-take-le, take_all, append_snoc, slice_empty, slice-cons}
 use Rattle.lists.specs.Tests.{any}
 use Rattle.console.specs.Newline.{is_newline, before_newline}
 use Rattle.console.specs.Taken.{unread, joined, Keeps, Taking, Takes}
 use Rattle.console.proofs.NewlineLaws.{before_other, any_other, before_newline_lem, any-newline}
-
--- a byte that the line has room for
-pub keeps-room : (line : List ℕ) (n b : ℕ) → n < length line → Keeps line n b (set line n b) (n + 1)
-keeps-room line n b h =
-    let front = length-take-le n line (omega arith) in
-    let whole : length (take n line ++ (b ∷ [])) ≤ length line = omega (arith, length-append (take n line) (b ∷ [])) in
-    record {
-      room = omega arith;
-      bytes = rw (add-one, take-suc-set line n b h) (sym (take_all (length line) _ whole));
-    }
-
--- a byte past the line's room
-pub keeps_full : (line : List ℕ) (n b : ℕ) → n ≤ length line → length line ≤ n → Keeps line n b line n
-keeps_full line n b h k =
-    record {
-      room = h;
-      bytes = rw (take_all n line k) (sym (take-append_seam line (b ∷ [])));
-    }
 
 -- what is cut to the room and then followed by more, cut again, is all of it, cut
 take_cut : (k : ℕ) (xs ys : List ℕ) → take k (take k xs ++ ys) ≡ take k (xs ++ ys)

@@ -1,5 +1,5 @@
 // The arguments after the program's name: a command, and what it takes. The one that asks for the status is not among them.
-ghost use Rattle.io.specs.Counts.{IsPrefixLen};
+ghost use Rattle.std.specs.Prelude.{◌≤◌, length, IfSome};
 
 use crate::output::warn;
 use crate::status::is_asked;
@@ -17,14 +17,12 @@ pub fn count(rt: HostRuntime) -> usize {
     usize::MAX
 }
 
-// Puts an argument at the start of the lent bytes, and answers its length: 0 where it is empty, missing or longer than they are.
-pub fn text_at(rt: HostRuntime, place: usize, text: &mut [u8]) -> usize
-    ensures { IsPrefixLen result text.new }
+// An argument, put at the start of the lent bytes: empty where it is missing or longer than they are, as whoever asks takes neither for a value.
+pub fn text_at<'a>(rt: HostRuntime, place: usize, lent: &'a mut [u8]) -> &'a [u8]
+    ensures { length result.now ≤ length lent.old }
 {
-    match rt.arg(place, text) {
-        Ok(length) => length,
-        Err(_) => 0,
-    }
+    let length = rt.arg(place, lent).unwrap_or(0);
+    &lent[..length]
 }
 
 // How many arguments were given, the command among them.
@@ -33,10 +31,7 @@ pub fn given(rt: HostRuntime) -> usize {
     if count < 2 {
         return 0;
     }
-    if is_asked(rt) {
-        return count - 2;
-    }
-    count - 1
+    if is_asked(rt) { count - 2 } else { count - 1 }
 }
 
 // A command was given too few or too many arguments.
@@ -51,11 +46,7 @@ pub fn usage(rt: HostRuntime, command: &[u8]) {
 // Whether as many arguments were given as a command takes, its name among them; else says what it takes.
 pub fn are(rt: HostRuntime, command: &[u8], least: usize, most: usize) -> bool {
     let count = given(rt);
-    if count < least {
-        usage(rt, command);
-        return false;
-    }
-    if most < count {
+    if count < least || most < count {
         usage(rt, command);
         return false;
     }
@@ -63,31 +54,34 @@ pub fn are(rt: HostRuntime, command: &[u8], least: usize, most: usize) -> bool {
 }
 
 // A name that can't be one: what it is called in the command's help, and why.
-fn warn_unnamed(rt: HostRuntime, what: &[u8], is_empty: bool) {
+fn warn_unnamed(rt: HostRuntime, what: &[u8], why: &[u8]) {
     warn(rt, b"grants: ");
     warn(rt, what);
-    if is_empty {
-        warn(rt, b" is empty: give a file's name\n");
-    } else {
-        warn(rt, b" is longer than any file's name: give a shorter one\n");
-    }
+    warn(rt, why);
 }
 
-// Puts the name that an argument gives at the start of the lent bytes, and answers its length; where it is empty or too long, says so and
-// answers 0.
-pub fn name_at(rt: HostRuntime, what: &[u8], place: usize, name: &mut [u8]) -> usize
-    ensures { IsPrefixLen result name.new }
+// The name that an argument gives, put at the start of the lent bytes; None where it is empty or too long, which is told.
+pub fn name_at<'a>(
+    rt: HostRuntime,
+    what: &[u8],
+    place: usize,
+    lent: &'a mut [u8],
+) -> Option<&'a [u8]>
+    ensures { IfSome result (λ name. length name.now ≤ length lent.old) }
 {
-    match rt.arg(place, name) {
-        Ok(length) => {
-            if length == 0 {
-                warn_unnamed(rt, what, true);
-            }
-            length
+    match rt.arg(place, lent) {
+        Ok(0) => {
+            warn_unnamed(rt, what, b" is empty: give a file's name\n");
+            None
         }
+        Ok(length) => Some(&lent[..length]),
         Err(_) => {
-            warn_unnamed(rt, what, false);
-            0
+            warn_unnamed(
+                rt,
+                what,
+                b" is longer than any file's name: give a shorter one\n",
+            );
+            None
         }
     }
 }

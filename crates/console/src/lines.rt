@@ -5,7 +5,7 @@ ghost use Rattle.std.specs.Prelude.{◌≡◌, ◌≤◌, length};
 ghost use Rattle.console.specs.Taken.{Taking, Takes, Keeps};
 ghost use Rattle.console.specs.Pulled.{HeldIn, Safe, LastLine, GoesOn, Pulls};
 
-use crate::errors::number_of;
+use crate::errors::Failure;
 use std::io::Read;
 
 // The bytes of the buffer that were read and not yet taken: from `at` up to `end`.
@@ -15,32 +15,31 @@ pub struct Cursor {
     pub end: usize,
 }
 
-// The bytes of a line that the lent line holds, without the newline; or the input ended; or it could not be read, by the system's error
-// number; or the line is longer than the lent one, and was given up.
+// Why there is no line: the input could not be read; or the line is longer than the lent one, and was given up.
 #[derive(Clone, Copy)]
-pub enum Line {
-    Held(usize),
-    End,
-    Failed(i32),
+pub enum Unread {
+    Failed(Failure),
     Long,
 }
 
-// The line, and whether its newline was met: the last line may have none.
+// How many bytes of the lent line hold the line, without its newline, None where the input has ended; and whether its newline was met: the
+// last line may have none. That is a flag, as a line is held with and without.
 #[derive(Clone, Copy)]
 pub struct Pulled {
     pub cursor: Cursor,
-    pub line: Line,
+    pub line: Result<Option<usize>, Unread>,
     pub ended: bool,
 }
 
 // What becomes of a line that is longer than the lent one: it is read to its end, or given up.
-#[derive(Clone, Copy)]
+#[derive(Clone, Copy, PartialEq, Eq)]
 pub enum Longer {
     Dropped,
     GivenUp,
 }
 
-// What was taken from the buffer: the place after it, the bytes that the line now holds, and whether its newline was met.
+// What was taken from the buffer: the place after it, the bytes that the line now holds, and whether its newline was met: a flag, as more bytes may be
+// held without it.
 #[derive(Clone, Copy)]
 pub struct Taken {
     pub at: usize,
@@ -73,8 +72,7 @@ fn take_line(input: &[u8], at: usize, end: usize, line: &mut [u8], held: usize) 
     ensures { Takes input.now at end line.old held line.new result }
 {
     let mut so_far = held;
-    let mut i = at;
-    while i < end {
+    for i in at..end {
         let byte = input[i];
         if byte == b'\n' {
             return Taken {
@@ -84,7 +82,6 @@ fn take_line(input: &[u8], at: usize, end: usize, line: &mut [u8], held: usize) 
             };
         }
         so_far = hold(line, so_far, byte);
-        i += 1;
     }
     Taken {
         at: end,
@@ -94,26 +91,14 @@ fn take_line(input: &[u8], at: usize, end: usize, line: &mut [u8], held: usize) 
 }
 
 // What the line holds where the input ends: a last line without a newline is a line.
-fn last_line(line: &[u8], held: usize) -> Line
-    requires { held ≤ length line.now }
-    ensures { HeldIn line.now result × LastLine held result }
+fn last_line(held: usize) -> Option<usize>
+    ensures { LastLine held result }
 {
-    if held == 0 {
-        return Line::End;
-    }
-    Line::Held(held)
-}
-
-// Whether a line that holds so many bytes, and has not ended, is given up.
-fn is_given_up(longer: Longer, held: usize, room: usize) -> bool {
-    match longer {
-        Longer::Dropped => false,
-        Longer::GivenUp => held == room,
-    }
+    if held == 0 { None } else { Some(held) }
 }
 
 // Reads until the line's newline, the end of the input, or a read that fails. A proved loop has to end, and nothing says that the input
-// does: so it counts its turns down, from a number that no run uses up.
+// does: so it counts its turns, up to a number that no run reaches.
 fn read_on<R: Read>(
     from: &mut R,
     input: &mut [u8],
@@ -125,14 +110,13 @@ fn read_on<R: Read>(
     ensures { Safe input.new line.new result × GoesOn line.old held line.new result.line }
 {
     let mut so_far = held;
-    let mut turns = u64::MAX;
-    while turns > 0 {
+    for _ in 0..u64::MAX {
         let end = match from.read(input) {
             Ok(end) => end,
             Err(error) => {
                 return Pulled {
                     cursor: fresh(),
-                    line: Line::Failed(number_of(error)),
+                    line: Err(Unread::Failed(Failure::from(error))),
                     ended: false,
                 };
             }
@@ -144,23 +128,22 @@ fn read_on<R: Read>(
         if taken.whole {
             return Pulled {
                 cursor: Cursor { at: taken.at, end },
-                line: Line::Held(taken.held),
+                line: Ok(Some(taken.held)),
                 ended: true,
             };
         }
         so_far = taken.held;
-        if is_given_up(longer, so_far, line.len()) {
+        if longer == Longer::GivenUp && so_far == line.len() {
             return Pulled {
                 cursor: fresh(),
-                line: Line::Long,
+                line: Err(Unread::Long),
                 ended: false,
             };
         }
-        turns -= 1;
     }
     Pulled {
         cursor: fresh(),
-        line: last_line(line, so_far),
+        line: Ok(last_line(so_far)),
         ended: false,
     }
 }
@@ -177,17 +160,14 @@ pub fn next_line<R: Read>(
 {
     let at = cursor.at;
     let end = cursor.end;
-    if end < at {
-        return read_on(from, input, line, 0, longer);
-    }
-    if input.len() < end {
+    if end < at || input.len() < end {
         return read_on(from, input, line, 0, longer);
     }
     let taken = take_line(input, at, end, line, 0);
     if taken.whole {
         return Pulled {
             cursor: Cursor { at: taken.at, end },
-            line: Line::Held(taken.held),
+            line: Ok(Some(taken.held)),
             ended: true,
         };
     }

@@ -1,7 +1,7 @@
 // How a program ended, for whoever started it. The program alone gives no status: it writes one digit to file descriptor 3, where
 // its last argument asks for that: bin/grants does, and makes a status of it.
 use crate::arguments::{count, text_at};
-use crate::output::Stream;
+use crate::output::Unwritten;
 use std::fs::OpenOptions;
 use std::io;
 use std::io::Write;
@@ -24,16 +24,15 @@ pub fn is_asked(rt: HostRuntime) -> bool {
         return false;
     }
     let mut last = [0u8; 16];
-    let n = text_at(rt, count - 1, &mut last);
-    &last[..n] == b"status-to-3".as_slice()
+    text_at(rt, count - 1, &mut last) == b"status-to-3".as_slice()
 }
 
 // The ending of an answer that says so: failed, where the answer was not written whole.
-pub fn answered(out: Stream, ending: Ending) -> Ending {
-    if out.whole {
-        return ending;
+pub fn answered(said: Result<(), Unwritten>, ending: Ending) -> Ending {
+    match said {
+        Ok(()) => ending,
+        Err(Unwritten) => Ending::Failed,
     }
-    Ending::Failed
 }
 
 // Opened for reading too, so that the open waits for nobody, and to write behind what is there.

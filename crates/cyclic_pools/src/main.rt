@@ -9,27 +9,21 @@ use file_calls::write::write;
 use geometry::axis::LEVELS;
 use grants_file::layout::{BLOCK_BYTES, MAX_BYTES};
 use index::start::start;
-use model::{MAX_GRANTS, Matched, Outcome, Written};
+use model::{Fault, MAX_GRANTS};
 use pool::Field;
-use pool::layout::{CAPACITY, CELL_WORDS, FREE, MAX_WORDS, ROOT, place_of, wide};
+use pool::layout::{CAPACITY, CELL_WORDS, FREE, MAX_WORDS, ROOT, place_of};
 use slip_session::answer;
-use slip_session::printing::{LINE_BYTES, print_outcome};
+use slip_session::printing::print_outcome;
 
 // The words of a pool of one cell.
 const ONE_CELL: usize = MAX_WORDS - (MAX_GRANTS - 1) * CELL_WORDS;
 
+// The cell below which there are as many as levels.
+const LAST: u16 = LEVELS as u16 + 1;
+
 fn put(pool: &mut [u16], at: usize, word: u16) {
     if at < pool.len() {
         pool[at] = word;
-    }
-}
-
-// Sets every word to 1, and so every link and every parent.
-fn every_link_one(pool: &mut [u16]) {
-    let mut i: usize = 0;
-    while i < pool.len() {
-        pool[i] = 1;
-        i += 1;
     }
 }
 
@@ -42,11 +36,8 @@ fn header(pool: &mut [u16]) {
 
 // Links a cell to two cells, and sets the parent that it names.
 fn link(pool: &mut [u16], cell: u16, left: u16, right: u16, parent: u16) {
-    let k = wide(cell);
-    if k == 0 {
-        return;
-    }
-    if MAX_GRANTS < k {
+    let k = usize::from(cell);
+    if k == 0 || MAX_GRANTS < k {
         return;
     }
     put(pool, place_of(k, Field::Left), left);
@@ -56,18 +47,14 @@ fn link(pool: &mut [u16], cell: u16, left: u16, right: u16, parent: u16) {
 
 // Links a cell a level to the next one on both sides; the last cell is terminal.
 fn link_both_to_next(pool: &mut [u16]) {
-    let mut k: u16 = 1;
-    while k <= LEVELS as u16 {
+    for k in 1..LAST {
         link(pool, k, k + 1, k + 1, k - 1);
-        k += 1;
     }
-    link(pool, k, 0, 0, k - 1);
+    link(pool, LAST, 0, 0, LAST - 1);
 }
 
 fn call(rt: HostRuntime, pool: &mut [u16], lent: &mut [u16], line: &[u8]) {
-    let mut out = [0u8; LINE_BYTES];
-    let n = answer(pool, lent, line, &mut out);
-    let _ = rt.write_all(&out[..n]);
+    let _ = rt.write_all(answer(pool, lent, line).as_slice());
 }
 
 // A slip of each kind.
@@ -80,32 +67,23 @@ fn each_call(rt: HostRuntime, pool: &mut [u16]) {
     call(rt, pool, &mut lent, b"G 5 1 1 0 9 0 9 0 9");
 }
 
-fn say(rt: HostRuntime, outcome: Outcome) {
-    let mut out = [0u8; LINE_BYTES];
-    let n = print_outcome(outcome, &mut out);
-    let _ = rt.write_all(&out[..n]);
+fn say(rt: HostRuntime, outcome: Result<(), Fault>) {
+    let _ = rt.write_all(print_outcome(outcome).as_slice());
 }
 
 fn write_all_doors(rt: HostRuntime, pool: &[u16]) {
     let mut bytes = [0u8; MAX_BYTES];
     let written = write(pool, 0, 65535, &mut bytes);
-    match written {
-        Written::Length(_) => say(rt, Outcome::Done),
-        Written::Refused(fault) => say(rt, Outcome::Refused(fault)),
-    }
+    say(rt, written.and(Ok(())));
 }
 
 fn match_empty(rt: HostRuntime, pool: &[u16]) {
     let mut empty = [0u16; ONE_CELL];
-    start(&mut empty);
+    let _ = start(&mut empty);
     let mut file = [0u8; BLOCK_BYTES];
-    write(&empty, 0, 65535, &mut file);
+    let _ = write(&empty, 0, 65535, &mut file);
     let matched = match_file(pool, &file);
-    match matched {
-        Matched::Equal => say(rt, Outcome::Done),
-        Matched::Differs(_) => say(rt, Outcome::Done),
-        Matched::Refused(fault) => say(rt, Outcome::Refused(fault)),
-    }
+    say(rt, matched.and(Ok(())));
 }
 
 // Every call but start and load, which walk nothing.
@@ -115,10 +93,9 @@ fn all_calls(rt: HostRuntime, pool: &mut [u16]) {
     match_empty(rt, pool);
 }
 
-// Every link is to the first cell.
+// Every word is 1, and so every link is to the first cell.
 fn try_first(rt: HostRuntime) {
-    let mut pool = [0u16; MAX_WORDS];
-    every_link_one(&mut pool);
+    let mut pool = [1u16; MAX_WORDS];
     header(&mut pool);
     link(&mut pool, 1, 1, 1, 0);
     all_calls(rt, &mut pool);

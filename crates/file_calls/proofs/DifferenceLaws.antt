@@ -1,60 +1,63 @@
 -- One turn of match's loop over the pool's grants and the file's (`first_difference`, calls/specs/FileCalls).
---   length_ours, ours_here      the pool's grants in sorted cells: how many, and the one at place i with those after it
+--   drop_end, drop_here         what a list holds from place i on, by what `slice_get` reads there
+--   get_here                    and what `slice_get` reads, by what the list holds
 --   both_end                    neither side has a grant at place i
 --   theirs_left, ours_left      one side alone has one
 --   unequal_here, equal_here    both have one, and the two are unequal or equal
 -- Assumes nothing.
-use Prim.Native.Nat.{ℕ, suc, ◌+◌, ◌<◌, ◌≤◌, min}
-use mathlib.Core.Path.{◌≡◌, sym, ◌∙◌}
+use Prim.Native.Nat.{ℕ, zero, suc, ◌+◌, min}
+use mathlib.Core.Path.{◌≡◌, refl, sym, ap}
 use mathlib.Core.Bool.{true, false}
-use mathlib.Core.List.{List, ◌∷◌}
+use mathlib.Core.List.{List, [], ◌∷◌}
+use Rattle.std.proofs.Common.{Some, None}
+use Rattle.std.proofs.lemmas.Option.{none-some, same_Some}
+use Rattle.std.specs.List.{slice_get}
 use native.Mathlib.Numerals.{add-one}
 use native.Mathlib.Omega.{arith}
-use lib.ListN.{length, take, drop, get_or, length-map, drop_of_length-le}
-use lib.Seq.{drop-cons, get_or-take, length-take-le}
-use Rattle.lists.proofs.ListLaws.{map-drop}
+use lib.ListN.{drop}
 use Rattle.model.specs.declared.Grant.{Grant}
-use Rattle.model.specs.declared.Matched.TheVariants.{Equal, Differs}
 use Rattle.model.specs.Grant.{same_grant}
-use Rattle.pool.specs.Cell.{grant_at}
-use Rattle.steps.specs.Hits.{CellsAt, grants_at}
 use Rattle.calls.specs.FileCalls.{first_difference}
 
-module _ (w cells : List ℕ) {n : ℕ} (at : CellsAt w cells n) where
-  abbrev ours : List Grant
-  ours = grants_at w cells n
+module _ {A : Type 0} where
+  drop_end : (xs : List A) (i : ℕ) → slice_get xs i ≡ None → drop i xs ≡ []
+  drop_end [] zero e = refl
+  drop_end [] (suc i) e = refl
+  drop_end (x ∷ xs) zero e = absurd (none-some x (sym e))
+  drop_end (x ∷ xs) (suc i) e = drop_end xs i e
 
-  many : length (take n cells) ≡ n
-  many = length-take-le n cells (omega (arith, at.room, at.few))
+  drop_next : (xs : List A) (i : ℕ) {y : A} → slice_get xs i ≡ Some y → drop i xs ≡ y ∷ drop (suc i) xs
+  drop_next [] i {y} e = absurd (none-some y e)
+  drop_next (x ∷ xs) zero {y} e = ap (λ (z : A). z ∷ xs) (same_Some x y e)
+  drop_next (x ∷ xs) (suc i) e = drop_next xs i e
 
-  pub length_ours : length ours ≡ n
-  length_ours = length-map (take n cells) (grant_at w) ∙ many
+  pub get_here : (xs : List A) (i : ℕ) {y : A} {ys : List A} → drop i xs ≡ y ∷ ys → slice_get xs i ≡ Some y
+  get_here [] zero e = let z : ◌≡◌ {A = ℕ} 0 1 = cc in absurd (omega arith)
+  get_here [] (suc i) e = let z : ◌≡◌ {A = ℕ} 0 1 = cc in absurd (omega arith)
+  get_here (x ∷ xs) zero {y} e = cc
+  get_here (x ∷ xs) (suc i) e = get_here xs i e
 
-  pub ours_here : {i : ℕ} → i < n → {k : ℕ} {g : Grant} → k ≡ get_or cells i 0 → g ≡ grant_at w k → drop i ours ≡ g ∷ drop (i + 1) ours
-  ours_here {i} lt place e =
-      sym (map-drop (grant_at w) i (take n cells))
-      ∙ rw (drop-cons (take n cells) i 0 (omega (arith, many)), get_or-take n cells i 0 lt, e, place, map-drop (grant_at w) (suc i) (take n cells), add-one i)
+  drop_here : (xs : List A) (i : ℕ) {y : A} → slice_get xs i ≡ Some y → drop i xs ≡ y ∷ drop (i + 1) xs
+  drop_here xs i e = rw (add-one i) (drop_next xs i e)
 
 module _ (gs hs : List Grant) (i : ℕ) where
-  pub both_end : length gs ≤ i → length hs ≤ i → Equal ≡ first_difference (drop i gs) (drop i hs)
+  pub both_end : slice_get gs i ≡ None → slice_get hs i ≡ None → None ≡ first_difference (drop i gs) (drop i hs)
   unfolding first_difference
-  both_end p q = rw (drop_of_length-le gs p, drop_of_length-le hs q)
+  both_end p q = rw (drop_end gs i p, drop_end hs i q)
 
-  module _ {h : Grant} (theirs : drop i hs ≡ h ∷ drop (i + 1) hs) where
-    pub theirs_left : length gs ≤ i → Differs h.number ≡ first_difference (drop i gs) (drop i hs)
+  pub theirs_left : slice_get gs i ≡ None → {h : Grant} → slice_get hs i ≡ Some h → Some h.number ≡ first_difference (drop i gs) (drop i hs)
+  unfolding first_difference
+  theirs_left p q = rw (drop_end gs i p, drop_here hs i q)
+
+  pub ours_left : {g : Grant} → slice_get gs i ≡ Some g → slice_get hs i ≡ None → Some g.number ≡ first_difference (drop i gs) (drop i hs)
+  unfolding first_difference
+  ours_left p q = rw (drop_here gs i p, drop_end hs i q)
+
+  module _ {g h : Grant} (ours : slice_get gs i ≡ Some g) (theirs : slice_get hs i ≡ Some h) where
+    pub unequal_here : same_grant g h ≡ false → Some (min g.number h.number) ≡ first_difference (drop i gs) (drop i hs)
     unfolding first_difference
-    theirs_left p = rw (drop_of_length-le gs p, theirs)
+    unequal_here u = rw (drop_here gs i ours, drop_here hs i theirs, u)
 
-  module _ {g : Grant} (ours : drop i gs ≡ g ∷ drop (i + 1) gs) where
-    pub ours_left : length hs ≤ i → Differs g.number ≡ first_difference (drop i gs) (drop i hs)
+    pub equal_here : same_grant g h ≡ true → first_difference (drop (i + 1) gs) (drop (i + 1) hs) ≡ first_difference (drop i gs) (drop i hs)
     unfolding first_difference
-    ours_left q = rw (ours, drop_of_length-le hs q)
-
-    module _ {h : Grant} (theirs : drop i hs ≡ h ∷ drop (i + 1) hs) where
-      pub unequal_here : same_grant g h ≡ false → {n : ℕ} → n ≡ min g.number h.number → Differs n ≡ first_difference (drop i gs) (drop i hs)
-      unfolding first_difference
-      unequal_here u e = rw (ours, theirs, u, e)
-
-      pub equal_here : same_grant g h ≡ true → first_difference (drop i gs) (drop i hs) ≡ first_difference (drop (i + 1) gs) (drop (i + 1) hs)
-      unfolding first_difference
-      equal_here u = rw (ours, theirs, u)
+    equal_here u = rw (drop_here gs i ours, drop_here hs i theirs, u)

@@ -8,15 +8,14 @@ use mathlib.Core.Path.{◌≡◌, sym, ap, ◌∙◌}
 use mathlib.Core.Bool.{false}
 use mathlib.Core.List.Memᴰ
 use mathlib.Core.List.{List, [], ◌∷◌, ◌++◌}
-use mathlib.Core.Option.{none, some}
+use Rattle.std.specs.Bool.{⊤}
+use Rattle.std.proofs.Common.{Option, None, Some, Result, Ok, Err}
 use native.Mathlib.Omega.{arith}
 use lib.ListN.{drop, get_or, drop_of_length-le}
 use borrow.Author.Tests.{lt-ltb, le-ltb}
 use Rattle.model.specs.declared.Grant.{Grant}
 use Rattle.model.specs.declared.Fault.{Fault}
 use Rattle.model.specs.declared.Fault.TheVariants.{BadPool, Full}
-use Rattle.model.specs.declared.Outcome.{Outcome}
-use Rattle.model.specs.declared.Outcome.TheVariants.{Done, Refused}
 use Rattle.model.specs.Values.{byte_values, Below}
 use Rattle.model.specs.Answer.{accepted, refusal, outcome_answer}
 use Rattle.model.specs.Refusal.{Cause, ◌if◌, Step, first_fault, refusing}
@@ -56,11 +55,11 @@ bytes_below (x ∷ f) h y (Memᴰ.head e) = rw e (h 0)
 bytes_below (x ∷ f) h y (Memᴰ.tail m) = bytes_below f (λ i. h (suc i)) y m
 
 module _ {S : Type 0} (s : S) (lent : List ℕ) (done : Step S) (cs ds : List Cause) where
-  row_holds : {f : Fault} → first_fault cs ≡ some f → refusing (cs ++ ds) s lent done ≡ refused_by f s lent
+  row_holds : {f : Fault} → first_fault cs ≡ Some f → refusing (cs ++ ds) s lent done ≡ refused_by f s lent
   unfolding refusing
   row_holds e = rw (first_fault-front cs ds _ e)
 
-  row_fails : first_fault cs ≡ none → refusing (cs ++ ds) s lent done ≡ refusing ds s lent done
+  row_fails : first_fault cs ≡ None → refusing (cs ++ ds) s lent done ≡ refusing ds s lent done
   unfolding refusing
   row_fails e = rw (first_fault-append cs ds e)
 
@@ -72,23 +71,23 @@ module _ (w f : List ℕ) where
   abbrev last_cause : Cause
   last_cause = Full if too_many_grants w f
 
-  module _ {c : ℕ} (e : c ≡ length_capacity w) where
-    pub load_bad : c ≡ 0 → Leaves (refusal BadPool) w (load_call w f)
+  module _ {o : Option ℕ} (e : o ≡ length_capacity w) where
+    pub load_bad : o ≡ None → Leaves (refusal BadPool) w (load_call w f)
     unfolding load_call load_order
     load_bad z = leaves_as (first_holds w [] loaded _ _ (length-refused w e z))
 
-    module _ (n : ¬ (c ≡ 0)) where
+    module _ {c : ℕ} (n : o ≡ Some c) where
       right : wrong_length w ≡ false
       right = (length_taken w e n).right
 
-      module _ {v : Outcome} (verdict : outcome_answer v ≡ (judging (file_causes f) f).answer) where
-        pub load_file : (x : Fault) → v ≡ Refused x → Leaves (outcome_answer v) w (load_call w f)
+      module _ {v : Result ⊤ Fault} (verdict : outcome_answer v ≡ (judging (file_causes f) f).answer) where
+        pub load_file : {x : Fault} → v ≡ Err x → Leaves (refusal x) w (load_call w f)
         unfolding load_call load_order
-        load_file x r =
+        load_file {x} r =
             let cause = answer-refused f x (sym verdict ∙ ap outcome_answer r) in
-            rw r (leaves_as (first_fails w [] loaded _ _ right ∙ row_holds w [] loaded (file_causes f) _ cause))
+            leaves_as (first_fails w [] loaded _ _ right ∙ row_holds w [] loaded (file_causes f) _ cause)
 
-        module _ (d : v ≡ Done) where
+        module _ (d : v ≡ Ok tt) where
           pub load-accepted : Accepted f
           load-accepted = answer-accepted f (sym verdict ∙ ap outcome_answer d)
 

@@ -6,6 +6,7 @@ use Prim.Native.Nat.{ℕ, ◌*◌, ◌<◌, ◌≤◌}
 use mathlib.Core.Path.{◌≡◌, sym, ap, ◌∙◌}
 use mathlib.Core.Bool.{true, false}
 use mathlib.Core.List.{List, [], ◌∷◌}
+use Rattle.std.proofs.Common.{Option, None, Some, Result, Ok, Err}
 use native.Mathlib.Omega.{arith}
 use lib.ListN.{length, take}
 use borrow.Author.Tests.{lt-ltb, le-ltb}
@@ -13,7 +14,7 @@ use Rattle.lists.specs.Sort.{sort_by}
 use Rattle.lists.specs.Overwrite.{overwrite}
 use Rattle.model.specs.declared.Grant.{Grant}
 use Rattle.model.specs.declared.Fault.TheVariants.{BadPool, Reversed, BrokenLinks, BufferTooShort}
-use Rattle.model.specs.Interval.{Interval}
+use Rattle.model.specs.declared.Interval.{Interval}
 use Rattle.model.specs.Answer.{accepted, refusal}
 use Rattle.model.specs.Refusal.{Step}
 use Rattle.model.specs.Arguments.{reversed_doors}
@@ -24,8 +25,7 @@ use Rattle.pool.specs.Capacity.{wrong_pool, pool_capacity}
 use Rattle.adt.specs.Search.{Search}
 use Rattle.grants_file.specs.Layout.{block_bytes}
 use Rattle.grants_file.specs.File.{blocks_for, file_of}
-use Rattle.steps.specs.declared.hits.Hits.{Hits}
-use Rattle.steps.specs.declared.hits.Hits.TheVariants.{Broken, Found}
+use Rattle.adt.specs.declared.Broken.{Broken}
 use Rattle.calls.specs.Walks.{door_search, hits_of, is_broken}
 use Rattle.calls.specs.Causes.{length_needed}
 use Rattle.steps.specs.Hits.{HitsAt, HitsFound, grants_at}
@@ -73,12 +73,12 @@ module _ (w : List ℕ) (doors : Interval) (lent : List ℕ) where
             ∙ first_fails w lent written _ _ (le-ltb _ _ room)
             ∙ none_left w lent written
 
-  module _ {c : ℕ} (e : c ≡ pool_capacity w) where
-    pub write_bad : c ≡ 0 → Lends (refusal BadPool) lent (write_call w doors lent)
+  module _ {o : Option ℕ} (e : o ≡ pool_capacity w) where
+    pub write_bad : o ≡ None → Lends (refusal BadPool) lent (write_call w doors lent)
     unfolding write_call write_order
     write_bad z = lends_as (first_holds w lent written _ _ (pool_refused w e z))
 
-    module _ (n : ¬ (c ≡ 0)) where
+    module _ {c : ℕ} (n : o ≡ Some c) where
       right : wrong_pool w ≡ false
       right = (pool_taken w e n).right
 
@@ -86,11 +86,11 @@ module _ (w : List ℕ) (doors : Interval) (lent : List ℕ) where
       write-reversed r = lends_as (reversed_step right (lt-ltb _ _ r))
 
       module _ (forward : doors.from ≤ doors.to) {range : Region} (a : range ≡ range_of_doors doors) (h : List ℕ)
-          {r : Hits} (f : HitsFound w range (in_range range) h r) where
-        pub write-broken : r ≡ Broken → Lends (refusal BrokenLinks) lent (write_call w doors lent)
+          {r : Result ℕ Broken} (f : HitsFound w range (in_range range) h r) where
+        pub write-broken : {b : Broken} → r ≡ Err b → Lends (refusal BrokenLinks) lent (write_call w doors lent)
         write-broken b = lends_as (broken_step right (le-ltb _ _ forward) (ap is_broken (broken-search w in_range a h f b)))
 
-        module _ {found : ℕ} (b : r ≡ Found found) {needed : ℕ} (size : needed ≡ block_bytes * blocks_for found) where
+        module _ {found : ℕ} (b : r ≡ Ok found) {needed : ℕ} (size : needed ≡ block_bytes * blocks_for found) where
           at : HitsAt w (range_of_doors doors) (in_range (range_of_doors doors)) h found
           at = found-hits w in_range a h f b
 
@@ -103,11 +103,11 @@ module _ (w : List ℕ) (doors : Interval) (lent : List ℕ) where
           pub write_short : length lent < needed → Lends (refusal (BufferTooShort needed)) lent (write_call w doors lent)
           write_short short = rw (← exact) (lends_as (short_step right (le-ltb _ _ forward) at.unbroken (omega (arith, exact))))
 
-          pub write_done : needed ≤ length lent → (cells : List ℕ) {bytes : List ℕ} → take found cells ≡ sort_by (number_in w) (take found h)
-              → bytes ≡ overwrite (file_of doors (grants_at w cells found)) lent
+          pub write_done : needed ≤ length lent → {cells bytes : List ℕ} → cells ≡ sort_by (number_in w) (take found h)
+              → bytes ≡ overwrite (file_of doors (grants_at w cells)) lent
               → Lends (accepted (needed ∷ [])) bytes (write_call w doors lent)
-          write_done room cells sorted file =
-              let grants = touching-sorted w doors h at cells sorted in
+          write_done room sorted file =
+              let grants = touching-sorted w doors h at sorted in
               let done = lends_as (done_step right (le-ltb _ _ forward) at.unbroken (omega (arith, exact))) in
               record {
                 answered = ap (λ (k : ℕ). accepted (k ∷ [])) (sym exact) ∙ done.answered;

@@ -10,7 +10,7 @@ ghost use Rattle.file_calls.specs.Loading.{Loading};
 
 use grants_file::grants::{grant_in, total_in};
 use grants_file::verdict::judge;
-use model::{Fault, Outcome};
+use model::Fault;
 use pool::fresh::make_fresh;
 use pool::layout::length_capacity;
 use steps::insertion::add;
@@ -20,29 +20,21 @@ fn add_all(pool: &mut [u16], file: &[u8], cells: usize, total: usize)
     requires { Loading pool.old cells file.now total }
     ensures { pool.new ≡ added_all pool.old (grants_in file.now) }
 {
-    let mut i: usize = 0;
-    while i < total {
+    for i in 0..total {
         add(pool, cells, grant_in(file, i));
-        i += 1;
     }
 }
 
-pub fn load(pool: &mut [u16], file: &[u8]) -> Outcome
+pub fn load(pool: &mut [u16], file: &[u8]) -> Result<(), Fault>
     ensures { Leaves (outcome_answer result) pool.new (load_call pool.old file.now) }
 {
-    let cells = length_capacity(pool);
-    if cells == 0 {
-        return Outcome::Refused(Fault::BadPool);
-    }
-    let verdict = judge(file);
-    let Outcome::Done = verdict else {
-        return verdict;
-    };
+    let cells = length_capacity(pool).ok_or(Fault::BadPool)?;
+    judge(file)?;
     let total = total_in(file);
     if cells < total {
-        return Outcome::Refused(Fault::Full);
+        return Err(Fault::Full);
     }
     make_fresh(pool, cells);
     add_all(pool, file, cells, total);
-    Outcome::Done
+    Ok(())
 }

@@ -9,33 +9,32 @@ use adt::predicates::Predicate;
 use geometry::range::range_of_doors;
 use grants_file::file::blocks_for;
 use grants_file::layout::BLOCK_BYTES;
-use model::{Fault, Written};
+use model::{Fault, Interval};
 use pool::layout::{MAX_CAPACITY, capacity};
-use steps::hits::{Hits, find_hits};
+use steps::hits::find_hits;
 use steps::sorted_cells::sort_cells;
 
-pub fn write(pool: &[u16], door_from: u16, door_to: u16, bytes: &mut [u8]) -> Written
+pub fn write(pool: &[u16], door_from: u16, door_to: u16, bytes: &mut [u8]) -> Result<usize, Fault>
     ensures { Lends (written_answer result) bytes.new
         (write_call pool.now (record { from = door_from; to = door_to }) bytes.old) }
 {
-    let cells = capacity(pool);
-    if cells == 0 {
-        return Written::Refused(Fault::BadPool);
-    }
+    let cells = capacity(pool).ok_or(Fault::BadPool)?;
     if door_to < door_from {
-        return Written::Refused(Fault::Reversed);
+        return Err(Fault::Reversed);
     }
-    let range = range_of_doors(door_from, door_to);
+    let range = range_of_doors(Interval {
+        from: door_from,
+        to: door_to,
+    });
     let mut hits = [0u16; MAX_CAPACITY];
-    let Hits::Found(found) = find_hits(pool, cells, &range, Predicate::InRange, &mut hits) else {
-        return Written::Refused(Fault::BrokenLinks);
-    };
+    let found = find_hits(pool, cells, &range, Predicate::InRange, &mut hits)?;
     let needed = BLOCK_BYTES * blocks_for(found);
     if bytes.len() < needed {
-        return Written::Refused(Fault::BufferTooShort { needed });
+        return Err(Fault::BufferTooShort { needed });
     }
     let mut sorted = [0u16; MAX_CAPACITY];
-    sort_cells(pool, &hits, found, &mut sorted);
-    write_file(pool, &sorted, found, door_from, door_to, bytes);
-    Written::Length(needed)
+    let sorted = &mut sorted[..found];
+    sort_cells(pool, &hits[..found], sorted);
+    write_file(pool, sorted, door_from, door_to, bytes);
+    Ok(needed)
 }

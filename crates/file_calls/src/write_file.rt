@@ -6,20 +6,18 @@ ghost use Rattle.lists.specs.Overwrite.{overwrite};
 ghost use Rattle.model.specs.Limits.{max_grants};
 ghost use Rattle.pool.specs.Capacity.{InPool};
 ghost use Rattle.pool.specs.Cell.{grant_at};
-ghost use Rattle.grants_file.specs.Layout.{record_bytes, block_bytes, records_place};
+ghost use Rattle.grants_file.specs.Layout.{record_bytes, block_bytes, records_place, records_per_block};
 ghost use Rattle.grants_file.specs.Record.{encode_record};
 ghost use Rattle.grants_file.specs.Block.{header_block, record_block};
 ghost use Rattle.grants_file.specs.File.{blocks_for, chunk, file_of};
-ghost use Rattle.steps.specs.Hits.{CellsAt, grants_at};
-ghost use Rattle.file_calls.specs.RecordBlocks.{BlockOfCells, RecordsInBlock, BlocksInFile, records_file};
+ghost use Rattle.steps.specs.Hits.{Cells, grants_at};
+ghost use Rattle.file_calls.specs.RecordBlocks.{BlockOfCells, records_file};
 
-use adt::search::HitCells;
 use grants_file::file::{blocks_for, count_in};
 use grants_file::layout::{BLOCK_BYTES, RECORD_BYTES, RECORDS_PER_BLOCK, RECORDS_PLACE};
 use grants_file::record::encode_record;
 use grants_file::write_block::{seal, start_block, write_header};
 use pool::cell::grant_at;
-use pool::layout::wide;
 
 // The record of the grant in a cell, whole, at a place of the block.
 fn write_record(pool: &[u16], cell: usize, block: &mut [u8], at: usize)
@@ -30,68 +28,58 @@ fn write_record(pool: &[u16], cell: usize, block: &mut [u8], at: usize)
     encode_record(block, at, g);
 }
 
-// The records of the grants in so many cells, from the first on.
-fn write_records(pool: &[u16], cells: &HitCells, first: usize, count: usize, block: &mut [u8])
-    requires { RecordsInBlock pool.now cells.now first count block.old }
-    ensures { block.new
-        ≡ sets block.old records_place (flat_map encode_record (grants_at pool.now (drop first cells.now) count)) }
+// The records of the grants in a block's cells.
+fn write_records(pool: &[u16], cells: &[u16], block: &mut [u8; BLOCK_BYTES])
+    requires { Cells pool.now cells.now × (length cells.now ≤ records_per_block) }
+    ensures { block.new ≡ sets block.old records_place (flat_map encode_record (grants_at pool.now cells.now)) }
 {
-    let mut i: usize = 0;
-    while i < count {
-        let cell = wide(cells[first + i]);
-        write_record(pool, cell, block, RECORDS_PLACE + RECORD_BYTES * i);
-        i += 1;
+    for (i, cell) in cells.iter().enumerate() {
+        let at = RECORDS_PLACE + RECORD_BYTES * i;
+        write_record(pool, usize::from(*cell), block, at);
     }
 }
 
-// A block of records, of a file of the grants in the first `total` cells.
-fn write_block(pool: &[u16], cells: &HitCells, total: usize, number: usize, block: &mut [u8])
-    requires { BlockOfCells pool.now cells.now total number × (length block.old ≡ block_bytes) }
-    ensures { block.new ≡ record_block number (chunk number (grants_at pool.now cells.now total)) }
+// A block of records, of a file of the grants in the cells.
+fn write_block(pool: &[u16], cells: &[u16], number: usize, block: &mut [u8; BLOCK_BYTES])
+    requires { BlockOfCells pool.now cells.now number }
+    ensures { block.new ≡ record_block number (chunk number (grants_at pool.now cells.now)) }
 {
-    let count = count_in(total, number);
+    let first = RECORDS_PER_BLOCK * (number - 1);
+    let count = count_in(cells.len(), number);
     start_block(block, number as u16, count as u16);
-    write_records(pool, cells, RECORDS_PER_BLOCK * (number - 1), count, block);
+    write_records(pool, &cells[first..first + count], block);
     seal(block, RECORDS_PLACE + RECORD_BYTES * count);
 }
 
 // The same at the start of longer bytes.
-fn write_first(pool: &[u16], cells: &HitCells, total: usize, number: usize, bytes: &mut [u8])
-    requires { BlockOfCells pool.now cells.now total number × (block_bytes ≤ length bytes.old) }
-    ensures { bytes.new ≡ record_block number (chunk number (grants_at pool.now cells.now total))
-        ++ drop block_bytes bytes.old }
+fn write_first(pool: &[u16], cells: &[u16], number: usize, bytes: &mut [u8])
+    requires { BlockOfCells pool.now cells.now number × (block_bytes ≤ length bytes.old) }
+    ensures { bytes.new ≡ record_block number (chunk number (grants_at pool.now cells.now)) ++ drop block_bytes bytes.old }
 {
-    write_block(pool, cells, total, number, &mut bytes[..BLOCK_BYTES]);
+    let block = bytes.first_chunk_mut().unwrap();
+    write_block(pool, cells, number, block);
 }
 
 // The same at its place in the file.
-fn write_at(pool: &[u16], cells: &HitCells, total: usize, number: usize, bytes: &mut [u8])
-    requires { BlockOfCells pool.now cells.now total number × (block_bytes * blocks_for total ≤ length bytes.old) }
+fn write_at(pool: &[u16], cells: &[u16], number: usize, bytes: &mut [u8])
+    requires { BlockOfCells pool.now cells.now number × (block_bytes * blocks_for (length cells.now) ≤ length bytes.old) }
     ensures { bytes.new
         ≡ take (block_bytes * number) bytes.old
-        ++ (record_block number (chunk number (grants_at pool.now cells.now total))
+        ++ (record_block number (chunk number (grants_at pool.now cells.now))
         ++ drop (block_bytes * number + block_bytes) bytes.old) }
 {
-    write_first(
-        pool,
-        cells,
-        total,
-        number,
-        &mut bytes[BLOCK_BYTES * number..],
-    );
+    write_first(pool, cells, number, &mut bytes[BLOCK_BYTES * number..]);
 }
 
 // The blocks of records, behind block 0.
-fn write_blocks(pool: &[u16], cells: &HitCells, total: usize, blocks: usize, bytes: &mut [u8])
-    requires { BlocksInFile pool.now cells.now total blocks bytes.old }
+fn write_blocks(pool: &[u16], cells: &[u16], bytes: &mut [u8])
+    requires { Cells pool.now cells.now × (block_bytes * blocks_for (length cells.now) ≤ length bytes.old) }
     ensures { bytes.new
-        ≡ overwrite (take block_bytes bytes.old ++ records_file (grants_at pool.now cells.now total) total)
+        ≡ overwrite (take block_bytes bytes.old ++ records_file (grants_at pool.now cells.now) (length cells.now))
         bytes.old }
 {
-    let mut i: usize = 1;
-    while i < blocks {
-        write_at(pool, cells, total, i, bytes);
-        i += 1;
+    for i in 1..blocks_for(cells.len()) {
+        write_at(pool, cells, i, bytes);
     }
 }
 
@@ -100,22 +88,16 @@ fn write_front(total: usize, from: u16, to: u16, bytes: &mut [u8])
     requires { (total ≤ max_grants) × (block_bytes ≤ length bytes.old) }
     ensures { bytes.new ≡ header_block total (record { from = from; to = to }) ++ drop block_bytes bytes.old }
 {
-    write_header(&mut bytes[..BLOCK_BYTES], total as u16, from, to);
+    let block = bytes.first_chunk_mut().unwrap();
+    write_header(block, total as u16, from, to);
 }
 
-// The file of the grants in the first `total` cells.
-pub fn write_file(
-    pool: &[u16],
-    cells: &HitCells,
-    total: usize,
-    from: u16,
-    to: u16,
-    bytes: &mut [u8],
-)
-    requires { CellsAt pool.now cells.now total × (block_bytes * blocks_for total ≤ length bytes.old) }
+// The file of the grants in the cells.
+pub fn write_file(pool: &[u16], cells: &[u16], from: u16, to: u16, bytes: &mut [u8])
+    requires { Cells pool.now cells.now × (block_bytes * blocks_for (length cells.now) ≤ length bytes.old) }
     ensures { bytes.new
-        ≡ overwrite (file_of (record { from = from; to = to }) (grants_at pool.now cells.now total)) bytes.old }
+        ≡ overwrite (file_of (record { from = from; to = to }) (grants_at pool.now cells.now)) bytes.old }
 {
-    write_front(total, from, to, bytes);
-    write_blocks(pool, cells, total, blocks_for(total), bytes);
+    write_front(cells.len(), from, to, bytes);
+    write_blocks(pool, cells, bytes);
 }

@@ -22,7 +22,7 @@ use Rattle.lists.proofs.TestLaws.{tests_agree, both_le, le_both}
 use Rattle.lists.proofs.ElementLaws.{mem_get_d}
 use Rattle.model.specs.declared.Box.{Box}
 use Rattle.model.specs.declared.Grant.{Grant}
-use Rattle.model.specs.Interval.{Interval}
+use Rattle.model.specs.declared.Interval.{Interval}
 use Rattle.model.specs.Box.{box_values}
 use Rattle.model.specs.Overlap.{Overlap, overlaps}
 use Rattle.model.specs.Grant.{touches}

@@ -10,7 +10,7 @@
 -- Assumes nothing: these are definitions.
 use Rattle.std.specs.Prelude.{ℕ, ◌+◌, ◌-◌, ◌≡◌, [], ◌∷◌}
 use Rattle.model.specs.declared.Box.{Box}
-use Rattle.model.specs.Interval.{Interval}
+use Rattle.model.specs.declared.Interval.{Interval}
 use Rattle.geometry.specs.Width.{top_of}
 use Rattle.geometry.specs.Region.{Region, range, free, root_region, low, high}
 

@@ -4,7 +4,7 @@ ghost use Rattle.geometry.specs.SearchRange.{range_of_box, range_of_doors, range
 
 use crate::axis::TOP;
 use crate::region::Region;
-use model::Box;
+use model::{Box, Interval};
 
 // A box whose quarters cover one at least. Quarters are half-open, staff and doors closed.
 pub fn range_of_box(b: Box) -> Region
@@ -30,12 +30,12 @@ pub fn range_of_box(b: Box) -> Region
 }
 
 // The doors, with the staff and quarter axes free.
-pub fn range_of_doors(from: u16, to: u16) -> Region
-    ensures { result ≡ range_of_doors (record { from = from; to = to }) }
+pub fn range_of_doors(doors: Interval) -> Region
+    ensures { result ≡ range_of_doors doors }
 {
     let free = [0, TOP];
-    let door_from = [0, to];
-    let door_to = [from, TOP];
+    let door_from = [0, doors.to];
+    let door_to = [doors.from, TOP];
     [free, door_from, free, free, door_to, free, free]
 }
 

@@ -3,16 +3,16 @@
 --   ancestor_past    past the root there is none
 -- Assumes nothing.
 use Prim.Native.Nat.{ℕ, zero, suc, ◌<◌, ◌≤◌}
-use mathlib.Core.Path.{◌≡◌, refl, sym, ◌∙◌}
+use mathlib.Core.Path.{◌≡◌, sym, ◌∙◌}
 use mathlib.Core.List.{List, [], ◌∷◌}
+use Rattle.std.proofs.Common.{None, Some}
 use native.Mathlib.Omega.{arith}
 use lib.ListN.{length, drop}
 use Rattle.geometry.specs.declared.Side.{Side}
 use Rattle.pool.specs.Cell.{grant_at}
 use Rattle.adt.specs.Reach.{node_at, cell_before, NamesBefore, ParentsAlong}
-use Rattle.grant_path.specs.declared.ancestors.Ancestor.TheVariants.{Is, End}
 use Rattle.grant_path.specs.GrantPath.{ancestor_from}
-use Rattle.grant_path.proofs.AncestorSteps.{ancestor_here, ancestor_end}
+use Rattle.grant_path.proofs.AncestorSteps.{ancestor_here, ancestor_far}
 
 module _ (w : List ℕ) (c : ℕ) where
   -- a step up is a step of the path less
@@ -22,14 +22,12 @@ module _ (w : List ℕ) (c : ℕ) where
   path_up s p i before = rw before.named
 
   pub ancestor_on : (p : List Side) (i : ℕ) → ParentsAlong w c p → i ≤ length p
-      → ancestor_from w (node_at w p) (length p) i ≡ Is (node_at w (drop i p)) (length (drop i p)) (grant_at w (node_at w (drop i p)))
+      → ancestor_from w (node_at w p) (length p) i
+      ≡ Some (record { cell = node_at w (drop i p); level = length (drop i p); grant = grant_at w (node_at w (drop i p)) })
   unfolding ParentsAlong
   ancestor_on p zero along le = sym (ancestor_here w (node_at w p) (length p) zero (omega arith))
   ancestor_on [] (suc i) along le = absurd (omega arith)
   ancestor_on (s ∷ p) (suc i) along le = path_up s p i along.0 ∙ ancestor_on p i along.1 (omega arith)
 
-  pub ancestor_past : (p : List Side) (i : ℕ) → ParentsAlong w c p → length p < i → ancestor_from w (node_at w p) (length p) i ≡ End
-  unfolding ParentsAlong
-  ancestor_past p zero along lt = absurd (omega arith)
-  ancestor_past [] (suc i) along lt = sym (ancestor_end w (node_at w []) 0 (suc i) (omega arith) refl)
-  ancestor_past (s ∷ p) (suc i) along lt = path_up s p i along.0 ∙ ancestor_past p i along.1 (omega arith)
+  pub ancestor_past : (p : List Side) (i : ℕ) → length p < i → ancestor_from w (node_at w p) (length p) i ≡ None
+  ancestor_past p i lt = sym (ancestor_far w (node_at w p) (length p) i lt)

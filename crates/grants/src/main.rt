@@ -4,10 +4,13 @@
 
 mod file_commands;
 
+use commands::matching::match_bank;
+use commands::panel_loop::panel;
+use commands::report::{check, show};
 use console::arguments::{given, text_at};
 use console::output::warn;
 use console::status::{Ending, tell};
-use file_commands::{FileCommand, on_file};
+use file_commands::on_file;
 
 // The slip program under its other name.
 fn slips(rt: HostRuntime) -> Ending {
@@ -21,45 +24,28 @@ fn slips(rt: HostRuntime) -> Ending {
     slip_session::program::run(rt)
 }
 
-// Runs a command.
+// Runs a command. A match and no table of names and functions, which is no plainer: two of them take more than others.
 fn run(rt: HostRuntime, command: &[u8]) -> Ending {
-    if command == b"slips".as_slice() {
-        return slips(rt);
+    match command {
+        b"slips" => slips(rt),
+        b"panel" => on_file(rt, command, 2, 3, panel),
+        b"cut" => commands::cut::cut(rt),
+        b"match" => on_file(rt, command, 3, 3, match_bank),
+        b"openings" => openings_command::openings(rt),
+        b"check" => on_file(rt, command, 2, 2, check),
+        b"show" => on_file(rt, command, 2, 2, show),
+        b"path" => commands::path::path(rt),
+        b"help" => commands::help::help(rt),
+        _ => commands::help::unknown(rt, command),
     }
-    if command == b"panel".as_slice() {
-        return on_file(rt, FileCommand::Panel);
-    }
-    if command == b"cut".as_slice() {
-        return commands::cut::cut(rt);
-    }
-    if command == b"match".as_slice() {
-        return on_file(rt, FileCommand::Match);
-    }
-    if command == b"openings".as_slice() {
-        return openings_command::openings(rt);
-    }
-    if command == b"check".as_slice() {
-        return on_file(rt, FileCommand::Check);
-    }
-    if command == b"show".as_slice() {
-        return on_file(rt, FileCommand::Show);
-    }
-    if command == b"path".as_slice() {
-        return commands::path::path(rt);
-    }
-    if command == b"help".as_slice() {
-        return commands::help::help(rt);
-    }
-    commands::help::unknown(rt, command)
 }
 
 fn run_given(rt: HostRuntime) -> Ending {
     if given(rt) == 0 {
         return commands::help::no_command(rt);
     }
-    let mut command = [0u8; 4096];
-    let length = text_at(rt, 1, &mut command);
-    run(rt, &command[..length])
+    let mut lent = [0u8; 4096];
+    run(rt, text_at(rt, 1, &mut lent))
 }
 
 fn main(rt: HostRuntime) {

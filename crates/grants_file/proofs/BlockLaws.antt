@@ -24,7 +24,7 @@ use Rattle.lists.proofs.RangeLaws.{length-count_from}
 use Rattle.lists.proofs.ListLaws.{count_from_mem, elements_joined, parts-joined, parts_flat_map, map_same, flat_map_same, flat_map_map, length_flat_map}
 use Rattle.lists.proofs.ListLaws.{same_numbers_true, every_zero, zero_every}
 use Rattle.model.specs.declared.Grant.{Grant}
-use Rattle.model.specs.Interval.{Interval}
+use Rattle.model.specs.declared.Interval.{Interval}
 use Rattle.model.specs.Values.{word_values, byte_values, Below, GrantFits}
 use Rattle.checksum.specs.Checksum.{checksum}
 use Rattle.checksum.proofs.ChecksumLaws.{checksum_lt}
@@ -244,7 +244,8 @@ magic-below = byte 0x4C (omega arith) (byte 0x47 (omega arith) (byte 0x46 (omega
     byte : {rest : List ℕ} (x : ℕ) → x < byte_values → Below byte_values rest → Below byte_values (x ∷ rest)
     byte {rest} x h below = below_cons byte_values x rest h below
 
-pub header_block-below : (n : ℕ) (doors : Interval) → n < word_values → doors.from < word_values → doors.to < word_values → Below byte_values (header_block n doors)
+pub header_block-below : (n : ℕ) (doors : Interval) → n < word_values → doors.from < word_values → doors.to < word_values
+    → Below byte_values (header_block n doors)
 unfolding header_block
 header_block-below n doors h low high =
     sealed-below _ (then_number doors.to (then_number doors.from (then_number n (then_number 0 magic-below (omega arith)) h) low) high)

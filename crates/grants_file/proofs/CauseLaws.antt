@@ -7,7 +7,7 @@
 -- Assumes nothing.
 use Prim.Native.Nat.{ℕ, zero, suc, ◌*◌, ◌%◌, ◌≤◌, ◌<◌}
 use mathlib.Core.Logic.{◌↔◌}
-use mathlib.Core.Path.{◌≡◌, refl, sym, ap, ◌∙◌}
+use mathlib.Core.Path.{◌≡◌, sym, ap, ◌∙◌}
 use mathlib.Core.Bool.{true, false, not, ◌&&◌, and-eq-true_iff}
 use mathlib.Core.List.Memᴰ
 use mathlib.Core.List.{List, flat_map, Memᴰ}
@@ -66,12 +66,12 @@ pub record RightStart (b : List ℕ) (i : ℕ) : Type 0 where
 pub start_iff : (b : List ℕ) (i : ℕ) → Clear (start_defects b i) ↔ RightStart b i
 start_iff b i = (
   (λ e.
-      let check = clear_parts _ _ e refl in
-      let mark = clear_parts _ _ check.1 refl in
+      let check = clear_parts _ _ e in
+      let mark = clear_parts _ _ check.1 in
       record {
         checksum = check.0;
         mark = not-false (has_magic b) mark.0;
-        number = eqb-true (be16_at b number_place) i (not-false _ (clear_parts _ _ mark.1 refl).0);
+        number = eqb-true (be16_at b number_place) i (not-false _ (clear_parts _ _ mark.1).0);
       }),
   (λ h.
       clear_cons _ _ h.checksum (clear_cons _ _ (ap not h.mark) (clear_cons _ _ (ap not (eq-eqb (be16_at b number_place) i h.number)) clear_nil))),
@@ -87,14 +87,14 @@ pub record RightHeader (f : List ℕ) : Type 0 where
 pub header_iff : (f : List ℕ) → Clear (header_defects f) ↔ RightHeader f
 header_iff f = (
   (λ e.
-      let few = clear_parts _ _ e refl in
-      let blocks = clear_parts _ _ few.1 refl in
-      let order = clear_parts _ _ blocks.1 refl in
+      let few = clear_parts _ _ e in
+      let blocks = clear_parts _ _ few.1 in
+      let order = clear_parts _ _ blocks.1 in
       record {
         few = ltb-false max_grants (total_in f) few.0;
         blocks = eqb-true (blocks_in f) (blocks_for (total_in f)) (not-false _ blocks.0);
         order = ltb-false (doors_in f).to (doors_in f).from order.0;
-        fill = (clear_parts _ _ order.1 refl).0;
+        fill = (clear_parts _ _ order.1).0;
       }),
   (λ h.
       clear_cons _ _ (le-ltb max_grants (total_in f) h.few)
@@ -110,10 +110,10 @@ pub record RightLayout (f : List ℕ) (i : ℕ) : Type 0 where
 layout_iff : (f : List ℕ) (i : ℕ) → Clear (layout_defects (block_at f i) i (miscounted f i)) ↔ RightLayout f i
 layout_iff f i = (
   (λ e.
-      let count = clear_parts _ _ e refl in
+      let count = clear_parts _ _ e in
       record {
         count = eqb-true (count_of (block_at f i)) (count_in (total_in f) i) (not-false _ count.0);
-        fill = (clear_parts _ _ count.1 refl).0;
+        fill = (clear_parts _ _ count.1).0;
       }),
   (λ h. clear_cons _ _ (ap not (eq-eqb (count_of (block_at f i)) (count_in (total_in f) i) h.count)) (clear_cons _ _ h.fill clear_nil)),
 )
@@ -147,7 +147,7 @@ block_mem n i h = Memᴰ.cast (sym (get_d_count_from 0 n i 0 h ∙ zero-add i)) 
 module _ (f : List ℕ) where
   file_causes_lem : Accepted f → (wrong_block_count f ≡ false) × Clear (flat_map (block_defects f) (count_from 0 (blocks_in f)))
   unfolding file_causes file_defects
-  file_causes_lem e = clear_parts _ _ ((none_of_iff (file_causes f)).0 e) refl
+  file_causes_lem e = clear_parts _ _ ((none_of_iff (file_causes f)).0 e)
 
   pub accepted-block : Accepted f → (i : ℕ) → i < blocks_in f → Clear (block_defects f i)
   accepted-block e i h = (clear_flat_map (block_defects f) (count_from 0 (blocks_in f))).0 (file_causes_lem e).1 i (block_mem (blocks_in f) i h)

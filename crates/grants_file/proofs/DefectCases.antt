@@ -6,15 +6,16 @@ use mathlib.Core.Path.{◌≡◌, refl}
 use mathlib.Core.Bool.{true, false}
 use mathlib.Core.List.{List, [], ◌∷◌, ◌++◌, map, flat_map}
 use lib.ListN.{replicate}
+use Rattle.std.proofs.Common.{Ok, Err}
 use Rattle.lists.specs.Ranges.{count_from}
 use Rattle.lists.specs.Tests.{every, same_numbers}
 use Rattle.model.specs.declared.Grant.{Grant}
 use Rattle.model.specs.declared.Kind.TheVariants as kind
-use Rattle.model.specs.Interval.{Interval}
-use Rattle.model.specs.Quarters.{Quarters}
+use Rattle.model.specs.declared.Interval.{Interval}
+use Rattle.model.specs.declared.Quarters.{Quarters}
 use Rattle.model.specs.Arguments.{reversed_box}
 use Rattle.checksum.specs.Checksum.{base256, checksum}
-use Rattle.grants_file.specs.declared.Defect.TheVariants.{Sound, Length, Checksum, Mark, BlockNumber, TooManyGrants, BlockCount}
+use Rattle.grants_file.specs.declared.Defect.TheVariants.{Length, Checksum, Mark, BlockNumber, TooManyGrants, BlockCount}
 use Rattle.grants_file.specs.declared.Defect.TheVariants.{RecordCount, DoorOrder, Padding, Record}
 use Rattle.grants_file.specs.declared.RecordFault.TheVariants.{NumberOrder, Kind, Reversed, RankTooLow, Doors}
 use Rattle.grants_file.specs.Layout.{magic_of, older_form, magic}
@@ -58,37 +59,37 @@ timed from to = within 7 (record { from = 1; to = 2 }) doors (record { from = fr
 abbrev of_kind2 : List ℕ
 of_kind2 = sealed (magic ++ be16 1 ++ be16 1 ++ be16 7 ++ (0 ∷ 2 ∷ []) ++ flat_map be16 (1 ∷ 2 ∷ 3 ∷ 9 ∷ 4 ∷ 7 ∷ []))
 
-pub layout_cases : (defect_in [] ≡ Length)
-    × (defect_in (file_of doors []) ≡ Sound)
-    × (defect_in (replicate 511 0 ++ 1 ∷ []) ≡ Checksum 0)
-    × (defect_in (sealed []) ≡ Mark 0 false)
-    × (defect_in (sealed (magic_of older_form)) ≡ Mark 0 true)
-    × (defect_in (header_block 1 doors ++ sealed (magic_of older_form)) ≡ Mark 1 true)
-    × (defect_in (record_block 1 []) ≡ BlockNumber 0)
-    × (defect_in (header_block 2049 doors) ≡ TooManyGrants 2049)
-    × (defect_in (header_block 5 doors) ≡ BlockCount 5 1)
-    × (defect_in (header_block 0 (record { from = 9; to = 3 })) ≡ DoorOrder 9 3)
-    × (defect_in (sealed (magic ++ flat_map be16 (0 ∷ 0 ∷ 3 ∷ 9 ∷ []) ++ 1 ∷ [])) ≡ Padding 0)
-    × (defect_in (header_block 1 doors ++ header_block 1 doors) ≡ BlockNumber 1)
-    × (defect_in (header_block 1 doors ++ record_block 1 (right 5 ∷ right 6 ∷ [])) ≡ RecordCount 1)
+pub layout_cases : (defect_in [] ≡ Err Length)
+    × (defect_in (file_of doors []) ≡ Ok tt)
+    × (defect_in (replicate 511 0 ++ 1 ∷ []) ≡ Err (Checksum 0))
+    × (defect_in (sealed []) ≡ Err (Mark 0 false))
+    × (defect_in (sealed (magic_of older_form)) ≡ Err (Mark 0 true))
+    × (defect_in (header_block 1 doors ++ sealed (magic_of older_form)) ≡ Err (Mark 1 true))
+    × (defect_in (record_block 1 []) ≡ Err (BlockNumber 0))
+    × (defect_in (header_block 2049 doors) ≡ Err (TooManyGrants 2049))
+    × (defect_in (header_block 5 doors) ≡ Err (BlockCount 5 1))
+    × (defect_in (header_block 0 (record { from = 9; to = 3 })) ≡ Err (DoorOrder 9 3))
+    × (defect_in (sealed (magic ++ flat_map be16 (0 ∷ 0 ∷ 3 ∷ 9 ∷ []) ++ 1 ∷ [])) ≡ Err (Padding 0))
+    × (defect_in (header_block 1 doors ++ header_block 1 doors) ≡ Err (BlockNumber 1))
+    × (defect_in (header_block 1 doors ++ record_block 1 (right 5 ∷ right 6 ∷ [])) ≡ Err (RecordCount 1))
 unfolding file_defects content_defects records_defects first_defect wrong_block_count wrong_checksum wrong_padding last_before records_of sealed
     header_block record_block file_of encode_record decode_record reversed_box flat_map count_from every same_numbers base256 checksum
 layout_cases = (refl, refl, refl, refl, refl, refl, refl, refl, refl, refl, refl, refl, refl)
 
-pub record_cases_lem : (defect_in (file_of doors (right 5 ∷ right 6 ∷ [])) ≡ Sound)
-    × (defect_in (file_of doors (right 0 ∷ [])) ≡ Record 1 1 0 NumberOrder)
-    × (defect_in (file_of doors (right 5 ∷ right 5 ∷ [])) ≡ Record 1 2 5 NumberOrder)
-    × (defect_in (file_of doors (map right (count_from 1 31) ++ right 31 ∷ [])) ≡ Record 2 1 31 NumberOrder)
-    × (defect_in (header_block 1 doors ++ of_kind2) ≡ Record 1 1 7 Kind)
-    × (defect_in (file_of doors (right 5 ∷ given 6 (record { from = 2; to = 1 }) doors ∷ [])) ≡ Record 1 2 6 Reversed)
+pub record_cases_lem : (defect_in (file_of doors (right 5 ∷ right 6 ∷ [])) ≡ Ok tt)
+    × (defect_in (file_of doors (right 0 ∷ [])) ≡ Err (Record 1 1 0 NumberOrder))
+    × (defect_in (file_of doors (right 5 ∷ right 5 ∷ [])) ≡ Err (Record 1 2 5 NumberOrder))
+    × (defect_in (file_of doors (map right (count_from 1 31) ++ right 31 ∷ [])) ≡ Err (Record 2 1 31 NumberOrder))
+    × (defect_in (header_block 1 doors ++ of_kind2) ≡ Err (Record 1 1 7 Kind))
+    × (defect_in (file_of doors (right 5 ∷ given 6 (record { from = 2; to = 1 }) doors ∷ [])) ≡ Err (Record 1 2 6 Reversed))
     -- quarters that cover one, and quarters that cover none
-    × (defect_in (file_of doors (timed 4 5 ∷ [])) ≡ Sound)
-    × (defect_in (file_of doors (timed 4 4 ∷ [])) ≡ Record 1 1 7 Reversed)
+    × (defect_in (file_of doors (timed 4 5 ∷ [])) ≡ Ok tt)
+    × (defect_in (file_of doors (timed 4 4 ∷ [])) ≡ Err (Record 1 1 7 Reversed))
     -- at rank 0: 1,001 doors, two of them the file's; 1,001, none of them the file's; 1,000
-    × (defect_in (file_of doors (right 5 ∷ given 6 (record { from = 1; to = 2 }) (record { from = 8; to = 1008 }) ∷ [])) ≡ Record 1 2 6 RankTooLow)
-    × (defect_in (file_of doors (given 6 (record { from = 1; to = 2 }) (record { from = 10; to = 1010 }) ∷ [])) ≡ Record 1 1 6 RankTooLow)
-    × (defect_in (file_of doors (given 6 (record { from = 1; to = 2 }) (record { from = 8; to = 1007 }) ∷ [])) ≡ Sound)
-    × (defect_in (file_of doors (given 6 (record { from = 1; to = 2 }) (record { from = 10; to = 12 }) ∷ [])) ≡ Record 1 1 6 Doors)
+    × (defect_in (file_of doors (right 5 ∷ given 6 (record { from = 1; to = 2 }) (record { from = 8; to = 1008 }) ∷ [])) ≡ Err (Record 1 2 6 RankTooLow))
+    × (defect_in (file_of doors (given 6 (record { from = 1; to = 2 }) (record { from = 10; to = 1010 }) ∷ [])) ≡ Err (Record 1 1 6 RankTooLow))
+    × (defect_in (file_of doors (given 6 (record { from = 1; to = 2 }) (record { from = 8; to = 1007 }) ∷ [])) ≡ Ok tt)
+    × (defect_in (file_of doors (given 6 (record { from = 1; to = 2 }) (record { from = 10; to = 12 }) ∷ [])) ≡ Err (Record 1 1 6 Doors))
 unfolding file_defects content_defects records_defects first_defect wrong_block_count wrong_checksum wrong_padding last_before records_of sealed
     header_block record_block file_of encode_record decode_record reversed_box flat_map count_from every same_numbers base256 checksum
 record_cases_lem = (refl, refl, refl, refl, refl, refl, refl, refl, refl, refl, refl, refl)

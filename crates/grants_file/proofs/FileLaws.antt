@@ -20,7 +20,7 @@ use Rattle.lists.proofs.RangeLaws.{length-count_from}
 use Rattle.lists.proofs.ListLaws.{take_mem, drop_mem, count_from_suc, count_from_mem, parts-joined, part_flat_map, map_inverse, flat_map_same}
 use Rattle.lists.proofs.ListLaws.{flat_map_map, length_flat_map, mem_flat_map}
 use Rattle.model.specs.declared.Grant.{Grant}
-use Rattle.model.specs.Interval.{Interval}
+use Rattle.model.specs.declared.Interval.{Interval}
 use Rattle.model.specs.Values.{byte_values, Below}
 use Rattle.grants_file.specs.Layout.{block_bytes, records_per_block}
 use Rattle.grants_file.specs.Bytes.{bytes_at}
@@ -33,7 +33,8 @@ use Rattle.grants_file.proofs.RecordLaws.{decode_encode}
 use Rattle.grants_file.proofs.BlockLaws.{header_block-below, record_block-below, length-header_block, length-record_block, records_of-record_block}
 use Rattle.grants_file.proofs.BlockLaws.{length_decoded}
 
-flat_map_from_one : {A : Type 0} (f g : ℕ → List A) (n : ℕ) → ((i : ℕ) → i < n → f (suc i) ≡ g (suc i)) → flat_map f (count_from 1 n) ≡ flat_map g (count_from 1 n)
+flat_map_from_one : {A : Type 0} (f g : ℕ → List A) (n : ℕ) → ((i : ℕ) → i < n → f (suc i) ≡ g (suc i))
+    → flat_map f (count_from 1 n) ≡ flat_map g (count_from 1 n)
 flat_map_from_one f g n h =
     rw (count_from_suc 0 n, flat_map_map f, flat_map_map g) (flat_map_same _ _ (count_from 0 n) (λ i m. let inside = count_from_mem 0 n i m in h i (omega arith)))
 

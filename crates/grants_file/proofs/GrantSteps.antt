@@ -6,9 +6,9 @@
 --   grant_here                         and gives grant i
 -- Assumes nothing.
 use Prim.Native.Nat.{ℕ, suc, ◌+◌, ◌-◌, ◌*◌, ◌/◌, ◌%◌, ◌≤◌, ◌<◌}
-use mathlib.Core.Path.{◌≡◌, refl, sym, ap, ◌∙◌}
+use mathlib.Core.Path.{◌≡◌, sym, ap, ◌∙◌}
 use mathlib.Core.List.{List, [], ◌∷◌}
-use mathlib.Core.Option.{Option, none, some}
+use Rattle.std.proofs.Common.{Some}
 use native.Mathlib.Omega.{arith}
 use native.Mathlib.Numerals.{add-one}
 use native.Mathlib.Nat.{zero-add}
@@ -40,7 +40,7 @@ module _ (f : List ℕ) where
   pub answer-accepted : (judging (file_causes f) f).answer ≡ accepted [] → Accepted f
   answer-accepted e = (none_of_iff (file_causes f)).1 (judging-accepted f (file_causes f) e)
 
-  pub answer-refused : (x : Fault) → (judging (file_causes f) f).answer ≡ refusal x → first_fault (file_causes f) ≡ some x
+  pub answer-refused : (x : Fault) → (judging (file_causes f) f).answer ≡ refusal x → first_fault (file_causes f) ≡ Some x
   answer-refused x e = judging-refused f (file_causes f) x e
 
 -- where the record of grant i lies

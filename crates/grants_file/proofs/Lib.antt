@@ -12,7 +12,6 @@ pub mod OneByteLaws
 pub mod DefectCases
 pub mod RecordSteps
 pub mod BlockSteps
-pub mod FileSteps
 pub mod DefectSteps
 pub mod ValidateSteps
 pub mod GrantSteps

@@ -9,7 +9,7 @@ use mathlib.Core.Logic.{◌≢◌}
 use mathlib.Core.Path.{◌≡◌, sym, ap, ◌∙◌}
 use mathlib.Core.Bool.{true, false, not}
 use mathlib.Core.List.{List, ◌++◌, flat_map}
-use mathlib.Core.Option.{some}
+use Rattle.std.proofs.Common.{Some}
 use native.Mathlib.Omega.{arith}
 use native.Mathlib.Decide.{dec_lt, ℕ_discrete}
 use native.Mathlib.Nat.{zero-add}
@@ -133,11 +133,12 @@ module _ (f : List ℕ) (i v : ℕ) where
 
 -- a block of wrong check is refused with 12 before its other causes
 bad_checksum : (f : List ℕ) (i : ℕ) (later : List DefectCause) → wrong_checksum (block_at f i) ≡ true
-    → first_fault (causes_of (block_defects f i ++ later)) ≡ some (BadChecksum i)
-unfolding first_fault flat_map
+    → first_fault (causes_of (block_defects f i ++ later)) ≡ Some (BadChecksum i)
+unfolding first_fault causes_of
 bad_checksum f i later e = rw e
 
-module _ (f : List ℕ) (i v : ℕ) (below : Below byte_values f) (taken : Accepted f) (inside : i < length f) (byte : v < byte_values) (other : v ≢ get_or f i 0) where
+module _ (f : List ℕ) (i v : ℕ) (below : Below byte_values f) (taken : Accepted f) (inside : i < length f) (byte : v < byte_values)
+    (other : v ≢ get_or f i 0) where
   passes : Passes f
   passes = (accepted_iff f).0 taken
 
@@ -167,8 +168,8 @@ module _ (f : List ℕ) (i v : ℕ) (below : Below byte_values f) (taken : Accep
   earlier_clear : (j : ℕ) → j < i / block_bytes → Clear (block_defects (set f i v) j)
   earlier_clear j h = rw (block_defects-set f i v j (omega arith)) (accepted-block f taken j (omega (arith, block_inside)))
 
-  pub one_byte : first_fault (file_causes (set f i v)) ≡ some (BadChecksum (i / block_bytes))
-  unfolding file_causes file_defects first_fault flat_map count_from
+  pub one_byte : first_fault (file_causes (set f i v)) ≡ Some (BadChecksum (i / block_bytes))
+  unfolding file_causes file_defects first_fault causes_of flat_map count_from
   one_byte =
       let at = i / block_bytes in
       let defects = block_defects (set f i v) in

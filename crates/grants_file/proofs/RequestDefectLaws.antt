@@ -7,11 +7,11 @@
 use Prim.Native.Nat.{ℕ}
 use mathlib.Core.Logic.{◌↔◌}
 use mathlib.Core.Path.{◌≡◌, refl}
-use mathlib.Core.Bool.{Bool, true, false, cond, ◌&&◌}
+use mathlib.Core.Bool.{Bool, true, false, cond}
 use mathlib.Core.List.{List, [], ◌∷◌, ◌++◌, map}
+use Rattle.std.specs.Bool.{⊤}
+use Rattle.std.proofs.Common.{Result, Ok, Err}
 use Rattle.model.specs.declared.RequestFault.{RequestFault}
-use Rattle.model.specs.declared.RequestCheck.{RequestCheck}
-use Rattle.model.specs.declared.RequestCheck.TheVariants.{Right, Wrong}
 use Rattle.model.specs.Call.{Request}
 use Rattle.model.specs.Refusal.{Cause, ◌if◌}
 use Rattle.model.specs.Judged.{NoneOf, none_end, none_more}
@@ -22,9 +22,9 @@ use Rattle.grants_file.specs.Defects.{DefectCause, ◌when◌, record_fault, fir
 use Rattle.grants_file.proofs.DefectLaws.{Clear, clear_nil, clear_cons, clear_parts}
 
 module _ (i k n : ℕ) where
-  abbrev pub check_defect : RequestCheck → Defect → Defect
-  check_defect Right d = d
-  check_defect (Wrong x) d = Record i k n (record_fault x)
+  abbrev pub check_defect : Result ⊤ RequestFault → Result ⊤ Defect → Result ⊤ Defect
+  check_defect (Ok x) d = d
+  check_defect (Err x) d = Err (Record i k n (record_fault x))
 
   module _ (r : Request) where
     -- some faults of the request, as defects of the record and as causes
@@ -41,13 +41,14 @@ module _ (i k n : ℕ) where
     first_wrong-defect (x ∷ xs) ds = go (wrong_in r x) (first_wrong-defect xs ds)
       where
         go : (t : Bool) → first_defect (defects_among xs ++ ds) ≡ check_defect (first_wrong r xs) (first_defect ds)
-            → cond t (Record i k n (record_fault x)) (first_defect (defects_among xs ++ ds)) ≡ check_defect (cond t (Wrong x) (first_wrong r xs)) (first_defect ds)
+            → cond t (Err (Record i k n (record_fault x))) (first_defect (defects_among xs ++ ds))
+            ≡ check_defect (cond t (Err x) (first_wrong r xs)) (first_defect ds)
         go true rest = refl
         go false rest = rest
 
     clear_none : (xs : List RequestFault) → Clear (defects_among xs) → NoneOf (causes_among xs)
     clear_none [] e = none_end
-    clear_none (x ∷ xs) e = let parts = clear_parts _ (defects_among xs) e refl in none_more parts.0 (clear_none xs parts.1)
+    clear_none (x ∷ xs) e = let parts = clear_parts _ (defects_among xs) e in none_more parts.0 (clear_none xs parts.1)
 
     none_clear : (xs : List RequestFault) → NoneOf (causes_among xs) → Clear (defects_among xs)
     none_clear [] h = clear_nil

@@ -10,12 +10,12 @@
 use Prim.Native.Nat.{ℕ, suc, ◌≤◌, ◌<◌}
 use mathlib.Core.Logic.{◌↔◌}
 use mathlib.Core.Path.{◌≡◌, refl, sym, ap, subst}
-use mathlib.Core.Bool.{true, false, not}
+use mathlib.Core.Bool.{true, not}
 use mathlib.Core.List.{List, [], ◌∷◌, ◌++◌, map, Memᴰ}
 use native.Mathlib.Omega.{arith}
 use borrow.Author.Tests.{leb-false, lt-leb, not-false}
 use Rattle.model.specs.declared.Grant.{Grant}
-use Rattle.model.specs.Interval.{Interval}
+use Rattle.model.specs.declared.Interval.{Interval}
 use Rattle.model.specs.Grant.{touches}
 use Rattle.model.specs.Judged.{NoneOf}
 use Rattle.model.specs.Call.{Request, request_of}
@@ -41,12 +41,12 @@ record_iff doors i k last r =
     let doors-test = Record i k (record_number r) Doors when not (touches doors (decode_record r)) in
     let joined = clear_append (request_defects i k r) (doors-test ∷ []) in (
       (λ e.
-          let number = clear_parts _ _ e refl in
+          let number = clear_parts _ _ e in
           let rest = joined.0 number.1 in
           record {
             number = leb-false (record_number r) last number.0;
             faultless = request.0 rest.0;
-            touching = not-false (touches doors (decode_record r)) (clear_parts _ _ rest.1 refl).0;
+            touching = not-false (touches doors (decode_record r)) (clear_parts _ _ rest.1).0;
           }),
       (λ h.
           clear_cons _ _ (lt-leb (record_number r) last h.number)

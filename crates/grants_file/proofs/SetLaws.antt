@@ -15,7 +15,7 @@ use Rattle.lists.specs.Sort.{sort_by}
 use Rattle.lists.proofs.TestLaws.{filter_all}
 use Rattle.lists.proofs.SortLaws.{Rises, rises_none, rises_more, rises_ascends, ascends_sort_by}
 use Rattle.model.specs.declared.Grant.{Grant}
-use Rattle.model.specs.Interval.{Interval}
+use Rattle.model.specs.declared.Interval.{Interval}
 use Rattle.model.specs.Grant.{touches}
 use Rattle.grants_file.specs.FileSets.{Ascending, ascending-none, ascending_more, FileSet, SameGrants, InOneAlone}
 

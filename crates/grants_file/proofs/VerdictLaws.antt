@@ -18,7 +18,7 @@ use Rattle.lists.specs.Ranges.{count_from}
 use Rattle.lists.proofs.ListLaws.{count_from_mem, flat_map_same, map-take, map-drop}
 use Rattle.model.specs.declared.Grant.{Grant}
 use Rattle.model.specs.Limits.{max_grants}
-use Rattle.model.specs.Interval.{Interval}
+use Rattle.model.specs.declared.Interval.{Interval}
 use Rattle.model.specs.Values.{byte_values, Below, GrantFits}
 use Rattle.grants_file.specs.Layout.{block_bytes, records_per_block}
 use Rattle.grants_file.specs.Bytes.{be16_at}
@@ -140,7 +140,8 @@ module _ (doors : Interval) (gs : List Grant) where
       )
 
   records_of_here : (k : ℕ) → k < record_blocks (length gs)
-      → records_of (block_at (file_of doors gs) (suc k)) (count_in (total_in (file_of doors gs)) (suc k)) ≡ take records_per_block (drop (records_per_block * k) records)
+      → records_of (block_at (file_of doors gs) (suc k)) (count_in (total_in (file_of doors gs)) (suc k))
+      ≡ take records_per_block (drop (records_per_block * k) records)
   records_of_here k h = records_of-file_of doors gs k h ∙ rw (sub-one (suc k), map-take, map-drop)
 
   last_before-file_of : (k : ℕ) → k < record_blocks (length gs) → last_before (file_of doors gs) (suc k) ≡ before k

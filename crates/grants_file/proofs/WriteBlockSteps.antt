@@ -1,24 +1,25 @@
 -- A block written piece by piece, as the code does it.
 --   sets_append        a run of stores and one that follows it are one run
 --   take_sets          what a run stored at the start is
---   zeros_none         no zero yet
---   zeros_turn         one zero more of the fill
---   zeros_end          the fill is whole
+--   put_sets           a write to a part is a run of stores
 --   seal_block         zeros up to the check, and the check, seal what stands before them
---   block-started      the mark and two numbers are one run
 --   header_block_lem       block 0, of the doors behind its start
+--   record_stored      a record, field by field
 --   record_block_lem       a start and its records, sealed, are the block
 -- Assumes nothing.
-use Prim.Native.Nat.{ℕ, zero, suc, ◌+◌, ◌-◌, ◌*◌, ◌≤◌}
+use Prim.Native.Nat.{ℕ, suc, ◌+◌, ◌-◌, ◌*◌, ◌≤◌}
 use mathlib.Core.Path.{◌≡◌, refl, ap, ◌∙◌}
-use mathlib.Core.List.{List, [], ◌∷◌, ◌++◌, flat_map, append-nil}
-use native.Mathlib.Nat.{add-zero, add-suc, suc-add}
+use mathlib.Core.List.{List, [], ◌∷◌, ◌++◌, flat_map, append-nil, append_assoc}
+use native.Mathlib.Nat.{add-zero}
+use native.Mathlib.Numerals.{unary_clauses}
 use native.Mathlib.Omega.{arith}
 use lib.ListN.{length, take, set, replicate, length-append, length-replicate, drop_of_length-le}
-use lib.Seq.{sets, length-sets, sets-eq, take_at, length-take-le}
+use borrow.Rule.Slice.PartMut.{put_mid}
+use lib.Seq.{sets, drop-drop, length-sets, sets-eq, take_at, length-take-le}
 use Rattle.lists.proofs.ListLaws.{length_flat_map}
 use Rattle.model.specs.declared.Grant.{Grant}
-use Rattle.model.specs.Interval.{Interval}
+use Rattle.model.specs.declared.Interval.{Interval}
+use Rattle.model.specs.Kind.{kind_number}
 use Rattle.checksum.specs.Checksum.{checksum}
 use Rattle.grants_file.specs.Layout.{record_bytes, block_bytes, checksum_place, records_place, records_per_block, header_end, magic}
 use Rattle.grants_file.specs.Bytes.{be16}
@@ -33,24 +34,9 @@ sets_append l i (x ∷ xs) ys j e = sets_append (set l i x) (suc i) xs ys j (ome
 pub take_sets : (l xs : List ℕ) (n : ℕ) → length xs ≡ n → n ≤ length l → take n (sets l 0 xs) ≡ xs
 take_sets l xs n e h = rw (sets-eq xs l 0 (omega (arith, e))) (take_at xs _ n e)
 
-pub sets_zeros_turn : (l : List ℕ) (i n : ℕ) → set (sets l i (replicate n 0)) (i + n) 0 ≡ sets l i (replicate (suc n) 0)
-sets_zeros_turn l i zero = rw (add-zero i)
-sets_zeros_turn l i (suc n) = rw (add-suc i n, ← suc-add i n) (sets_zeros_turn (set l i 0) (suc i) n)
-
-pub zeros_none : (l : List ℕ) (start : ℕ) → l ≡ sets l start (replicate (start - start) 0)
-zeros_none l start = let none : start - start ≡ 0 = omega arith in rw none
-
--- the zeros before `at` are stored
-pub zeros_turn : (l stored : List ℕ) (start at : ℕ) → start ≤ at → stored ≡ sets l start (replicate (at - start) 0)
-    → set stored at 0 ≡ sets l start (replicate (at + 1 - start) 0)
-zeros_turn l stored start at h e =
-    let more : at + 1 - start ≡ suc (at - start) = omega arith in
-    let place : start + (at - start) ≡ at = omega arith in
-    rw (e, more) (rw place at (sets_zeros_turn l start (at - start)))
-
-pub zeros_end : (l stored : List ℕ) (start at : ℕ) → at ≡ checksum_place → stored ≡ sets l start (replicate (at - start) 0)
-    → stored ≡ sets l start (replicate (checksum_place - start) 0)
-zeros_end l stored start at e s = rw e at s
+-- a write to a part, k numbers from a on
+pub put_sets : (a k : ℕ) (xs ys : List ℕ) → length ys ≡ k → a + k ≤ length xs → put_mid a k xs ys ≡ sets xs a ys
+put_sets a k xs ys e h = rw (sets-eq ys xs a (omega (arith, e)), e, drop-drop k a xs, append_assoc) refl
 
 module _ (b : List ℕ) (start : ℕ) (long : length b ≡ block_bytes) (h : start ≤ checksum_place) where
   abbrev zeros : List ℕ
@@ -89,10 +75,6 @@ abbrev pub started : ℕ → ℕ → List ℕ
 started i n = magic ++ be16 i ++ be16 n
 
 module _ (b : List ℕ) where
-  pub block-started : (i n : ℕ) {marked numbered done : List ℕ} → marked ≡ sets b 0 magic → numbered ≡ sets marked 4 (be16 i)
-      → done ≡ sets numbered 6 (be16 n) → done ≡ sets b 0 (started i n)
-  block-started i n m t d = d ∙ rw (t, m)
-
   pub header_block_lem : (n : ℕ) (doors : Interval) {done from to block : List ℕ} → length b ≡ block_bytes → done ≡ sets b 0 (started 0 n)
       → from ≡ sets done 8 (be16 doors.from) → to ≡ sets from 10 (be16 doors.to) → block ≡ sealed (take header_end to)
       → block ≡ header_block n doors
@@ -113,3 +95,20 @@ unfolding record_block
 record_block_lem b i n gs long count few d e =
     let whole : length (started i n ++ flat_map encode_record gs) ≡ records_place + record_bytes * n = length_records i n gs ∙ rw count in
     e ∙ rw (d, count) (ap sealed (take_sets b (started i n ++ flat_map encode_record gs) _ whole (omega (arith, long))))
+
+-- a record written field by field, two bytes each but for the third and the fourth
+module _ (l : List ℕ) (at : ℕ) (g : Grant) where
+  pub record_stored : {l1 l2 l3 l4 l5 l6 l7 : List ℕ} {kind : ℕ} → l1 ≡ sets l at (be16 g.number) → kind ≡ kind_number g.kind
+      → l2 ≡ sets (set (set l1 (at + 2) g.rank) (at + 3) kind) (at + 4) (be16 g.bounds.staff_from)
+      → l3 ≡ sets l2 (at + 6) (be16 g.bounds.staff_to)
+      → l4 ≡ sets l3 (at + 8) (be16 g.bounds.door_from)
+      → l5 ≡ sets l4 (at + 10) (be16 g.bounds.door_to)
+      → l6 ≡ sets l5 (at + 12) (be16 g.bounds.quarter_from)
+      → l7 ≡ sets l6 (at + 14) (be16 g.bounds.quarter_to)
+      → l7 ≡ sets l at (encode_record g)
+  unfolding encode_record flat_map
+  record_stored e1 k e2 e3 e4 e5 e6 e7 =
+      let p10 : at + 10 ≡ suc (suc (at + 8)) = omega arith in
+      let p12 : at + 12 ≡ suc (suc (suc (suc (at + 8)))) = omega arith in
+      let p14 : at + 14 ≡ suc (suc (suc (suc (suc (suc (at + 8)))))) = omega arith in
+      rw (e7, e6, e5, e4, e3, e2, k, e1, p10, p12, p14) (simp unary_clauses refl)

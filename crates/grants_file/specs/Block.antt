@@ -12,7 +12,7 @@ use mathlib.Core.List.{List, ◌++◌, map, flat_map}
 use Rattle.lists.specs.Tests.{every, same_numbers}
 use Rattle.lists.specs.Ranges.{count_from}
 use Rattle.model.specs.declared.Grant.{Grant}
-use Rattle.model.specs.Interval.{Interval}
+use Rattle.model.specs.declared.Interval.{Interval}
 use Rattle.checksum.specs.Checksum.{checksum}
 use Rattle.grants_file.specs.Layout.{magic_of, current_form, magic, checksum_place, count_place, record_bytes, record_place}
 use Rattle.grants_file.specs.Bytes.{be16, be16_at, bytes_at}

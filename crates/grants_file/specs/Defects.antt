@@ -8,23 +8,23 @@
 --   record_defects, records_defects  in record k of block i, counted from 1, and in its records from the k-th on
 --   block_defects f i, file_defects f    all of block i, the start first, and all of a file
 --   defect_fault x                  the fault that a defect stands for
---   first_defect cs                 the first that is there, Sound where none is; by `defect_fault-first` of proofs/DefectLaws it is the first fault's
+--   first_defect cs                 the first that is there, as the error of a Result; by `first_defect-first` of proofs/DefectLaws it is the first fault's
 --   defect_in f                     what is wrong in a file
 -- Assumes nothing: these are definitions.
-use Rattle.std.specs.Prelude.{ℕ, zero, suc, ◌-◌, Bool, true, false, cond, not, ◌&&◌, leb, ltb, eqb}
+use Rattle.std.specs.Prelude.{ℕ, zero, suc, ◌-◌, Bool, cond, not, leb, ltb, eqb, ⊤, Result, Ok, Err}
 use mathlib.Core.List.{List, [], ◌∷◌, ◌++◌, map, flat_map}
-use Rattle.std.proofs.Math.Option.{Option, none, some}
 use Rattle.lists.specs.Ranges.{count_from}
 use Rattle.model.specs.declared.Fault.{Fault}
 use Rattle.model.specs.declared.Fault.TheVariants.{BadLength, BadLayout, BadChecksum, BadRecord}
 use Rattle.model.specs.Limits.{max_grants}
-use Rattle.model.specs.Interval.{Interval, reversed}
+use Rattle.model.specs.declared.Interval.{Interval}
+use Rattle.model.specs.Interval.{reversed}
 use Rattle.model.specs.Grant.{touches}
 use Rattle.model.specs.declared.RequestFault.{RequestFault}
 use Rattle.model.specs.declared.RequestFault.TheVariants as wrong
 use Rattle.model.specs.Arguments.{request_order, wrong_in}
 use Rattle.grants_file.specs.declared.Defect.{Defect}
-use Rattle.grants_file.specs.declared.Defect.TheVariants.{Sound, Length, Checksum, Mark, BlockNumber, TooManyGrants, BlockCount}
+use Rattle.grants_file.specs.declared.Defect.TheVariants.{Length, Checksum, Mark, BlockNumber, TooManyGrants, BlockCount}
 use Rattle.grants_file.specs.declared.Defect.TheVariants.{RecordCount, DoorOrder, Padding, Record}
 use Rattle.grants_file.specs.declared.RecordFault.{RecordFault}
 use Rattle.grants_file.specs.declared.RecordFault.TheVariants.{NumberOrder, Kind, Reversed, RankTooLow, Doors}
@@ -105,30 +105,21 @@ block_defects f i = start_defects (block_at f i) i ++ content_defects f i
 unfoldable pub file_defects : List ℕ → List DefectCause
 file_defects f = Length when wrong_block_count f ∷ flat_map (block_defects f) (count_from 0 (blocks_in f))
 
-abbrev pub defect_fault : Defect → Option Fault
-defect_fault Sound = none
-defect_fault Length = some BadLength
-defect_fault (Checksum i) = some (BadChecksum i)
-defect_fault (Mark i older) = some (BadLayout i)
-defect_fault (BlockNumber i) = some (BadLayout i)
-defect_fault (TooManyGrants total) = some (BadLayout 0)
-defect_fault (BlockCount total blocks) = some (BadLayout 0)
-defect_fault (RecordCount i) = some (BadLayout i)
-defect_fault (DoorOrder from to) = some (BadLayout 0)
-defect_fault (Padding i) = some (BadLayout i)
-defect_fault (Record i k number wrong) = some (BadRecord i)
+abbrev pub defect_fault : Defect → Fault
+defect_fault Length = BadLength
+defect_fault (Checksum i) = BadChecksum i
+defect_fault (Mark i older) = BadLayout i
+defect_fault (BlockNumber i) = BadLayout i
+defect_fault (TooManyGrants total) = BadLayout 0
+defect_fault (BlockCount total blocks) = BadLayout 0
+defect_fault (RecordCount i) = BadLayout i
+defect_fault (DoorOrder from to) = BadLayout 0
+defect_fault (Padding i) = BadLayout i
+defect_fault (Record i k number wrong) = BadRecord i
 
-abbrev pub is_some : Option Fault → Bool
-is_some none = false
-is_some (some x) = true
+unfoldable pub first_defect : List DefectCause → Result ⊤ Defect
+first_defect [] = Ok tt
+first_defect (c ∷ cs) = cond c.present (Err c.defect) (first_defect cs)
 
--- a defect stands for a fault; Sound does not, and is no defect
-abbrev pub is_wrong : Defect → Bool
-is_wrong x = is_some (defect_fault x)
-
-unfoldable pub first_defect : List DefectCause → Defect
-first_defect [] = Sound
-first_defect (c ∷ cs) = cond (is_wrong c.defect && c.present) c.defect (first_defect cs)
-
-abbrev pub defect_in : List ℕ → Defect
+abbrev pub defect_in : List ℕ → Result ⊤ Defect
 defect_in f = first_defect (file_defects f)

@@ -9,7 +9,7 @@ use Rattle.std.specs.Prelude.{ℕ, suc, ◌+◌, ◌-◌, ◌*◌, ◌/◌, ◌%
 use mathlib.Core.List.{List, ◌++◌, map, flat_map}
 use Rattle.lists.specs.Ranges.{count_from}
 use Rattle.model.specs.declared.Grant.{Grant}
-use Rattle.model.specs.Interval.{Interval}
+use Rattle.model.specs.declared.Interval.{Interval}
 use Rattle.grants_file.specs.Layout.{block_bytes, max_blocks, total_place, first_door_place, last_door_place, records_per_block}
 use Rattle.grants_file.specs.Bytes.{be16_at, bytes_at}
 use Rattle.grants_file.specs.Record.{decode_record}

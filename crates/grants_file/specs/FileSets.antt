@@ -8,12 +8,12 @@
 --   DiffersAt n gs hs     the number n is in one set alone, or in both with unequal grants
 --   LeastDifference n     the lowest such number
 -- Assumes nothing: these are definitions.
-use Rattle.std.specs.Prelude.{ℕ, ◌≤◌, ◌<◌, ◌↔◌, ◌⊎◌, ◌≡◌, true, T, length}
+use Rattle.std.specs.Prelude.{ℕ, ◌≤◌, ◌<◌, ◌↔◌, ◌⊎◌, ◌≡◌, true, length}
 use mathlib.Core.List.{List, [], ◌∷◌, Memᴰ}
 use Rattle.lists.specs.Sort.{sort_by}
 use Rattle.model.specs.declared.Grant.{Grant}
 use Rattle.model.specs.Limits.{max_grants}
-use Rattle.model.specs.Interval.{Interval}
+use Rattle.model.specs.declared.Interval.{Interval}
 use Rattle.model.specs.Grant.{touches}
 use Rattle.model.specs.Judged.{NoneOf}
 use Rattle.model.specs.Call.{request_of}

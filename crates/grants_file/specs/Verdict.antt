@@ -3,21 +3,14 @@
 --   file_causes f      those of a file, in document 01's order
 --   judging cs f      a call that judges the bytes f by causes: refused by the first that holds, else accepted
 -- Assumes nothing: these are definitions.
-use Rattle.std.specs.Prelude.{ℕ, Bool}
-use mathlib.Core.List.{List, [], ◌∷◌, flat_map}
-use Rattle.std.proofs.Math.Option.{Option, none, some}
-use Rattle.model.specs.declared.Fault.{Fault}
+use Rattle.std.specs.Prelude.{ℕ}
+use mathlib.Core.List.{List, [], map}
 use Rattle.model.specs.Answer.{accepted}
 use Rattle.model.specs.Refusal.{Cause, ◌if◌, Step, refusing}
 use Rattle.grants_file.specs.Defects.{DefectCause, defect_fault, file_defects}
 
--- Sound stands for none
-abbrev pub cause_by : Option Fault → Bool → List Cause
-cause_by none t = []
-cause_by (some fault) t = fault if t ∷ []
-
-abbrev pub causes_of : List DefectCause → List Cause
-causes_of cs = flat_map (λ (c : DefectCause). cause_by (defect_fault c.defect) c.present) cs
+unfoldable pub causes_of : List DefectCause → List Cause
+causes_of cs = map (λ (c : DefectCause). defect_fault c.defect if c.present) cs
 
 unfoldable pub file_causes : List ℕ → List Cause
 file_causes f = causes_of (file_defects f)

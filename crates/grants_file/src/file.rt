@@ -1,6 +1,6 @@
 // The blocks of a file (document 01, "The grants file"), of any bytes.
-ghost use Rattle.std.specs.Prelude.{◌≡◌, ◌<◌, ◌≤◌, length};
-ghost use Rattle.grants_file.specs.Layout.{block_bytes, max_blocks, records_per_block};
+ghost use Rattle.std.specs.Prelude.{◌≡◌, ◌<◌, ◌≤◌};
+ghost use Rattle.grants_file.specs.Layout.{max_blocks, records_per_block};
 ghost use Rattle.grants_file.specs.File.{blocks_for, count_in, blocks_in, block_at, wrong_block_count};
 
 use crate::layout::{BLOCK_BYTES, MAX_BLOCKS, RECORDS_PER_BLOCK};
@@ -13,16 +13,15 @@ pub fn blocks_in(file: &[u8]) -> usize
 }
 
 // The bytes of a block.
-pub fn block_at(file: &[u8], block: usize) -> &[u8]
+pub fn block_at(file: &[u8], block: usize) -> &[u8; BLOCK_BYTES]
     requires { block < blocks_in file.now }
-    ensures { (result.now ≡ block_at file.now block) × (length result.now ≡ block_bytes) }
+    ensures { result.now ≡ block_at file.now block }
 {
-    let start = BLOCK_BYTES * block;
-    let end = start + BLOCK_BYTES;
-    &file[start..end]
+    file[BLOCK_BYTES * block..].first_chunk().unwrap()
 }
 
 // Fault 10's cause: not 1 to 68 whole blocks.
+#[tactic(auto, unfolding(crate::specs::File::wrong_block_count))]
 pub fn wrong_block_count(file: &[u8]) -> bool
     ensures { result ≡ wrong_block_count file.now }
 {
@@ -30,10 +29,7 @@ pub fn wrong_block_count(file: &[u8]) -> bool
         return true;
     }
     let blocks = blocks_in(file);
-    if blocks == 0 {
-        return true;
-    }
-    MAX_BLOCKS < blocks
+    blocks == 0 || MAX_BLOCKS < blocks
 }
 
 // The blocks of a file of so many grants.
@@ -50,13 +46,5 @@ pub fn count_in(total: usize, block: usize) -> usize
     ensures { (result ≡ count_in total block) × (result ≤ records_per_block) }
 {
     let before = RECORDS_PER_BLOCK * (block - 1);
-    if total <= before {
-        return 0;
-    }
-    let left = total - before;
-    if left < RECORDS_PER_BLOCK {
-        left
-    } else {
-        RECORDS_PER_BLOCK
-    }
+    total.saturating_sub(before).min(RECORDS_PER_BLOCK)
 }

@@ -9,7 +9,7 @@ use crate::layout::{
     TOTAL_PLACE,
 };
 use crate::record::decode_record;
-use model::Grant;
+use model::{Grant, Interval};
 
 // Document 01's n.
 pub fn total_in(file: &[u8]) -> usize
@@ -19,18 +19,15 @@ pub fn total_in(file: &[u8]) -> usize
     count_at(file, TOTAL_PLACE)
 }
 
-pub fn first_door(file: &[u8]) -> u16
+// The doors that a file says it was cut for.
+pub fn doors_in(file: &[u8]) -> Interval
     requires { 0 < blocks_in file.now }
-    ensures { result ≡ (doors_in file.now).from }
+    ensures { result ≡ doors_in file.now }
 {
-    be16_at(file, FIRST_DOOR_PLACE)
-}
-
-pub fn last_door(file: &[u8]) -> u16
-    requires { 0 < blocks_in file.now }
-    ensures { result ≡ (doors_in file.now).to }
-{
-    be16_at(file, LAST_DOOR_PLACE)
+    Interval {
+        from: be16_at(file, FIRST_DOOR_PLACE),
+        to: be16_at(file, LAST_DOOR_PLACE),
+    }
 }
 
 // Grant i of an accepted file, from 0 on, across its blocks.

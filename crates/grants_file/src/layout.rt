@@ -1,4 +1,6 @@
 // Where everything stands in a grants file (document 01, "The grants file"; specs/Layout). The one file of code that names a size or a place.
+ghost use Rattle.std.specs.Prelude.{◌≡◌};
+ghost use Rattle.grants_file.specs.Layout.{magic_of};
 
 pub const BLOCK_BYTES: usize = 512;
 
@@ -12,8 +14,12 @@ pub const CURRENT_FORM: u8 = 0x32;
 
 pub const OLDER_FORM: u8 = 0x31;
 
-// The mark, at a block's start.
-pub const MAGIC: [u8; 4] = [0x4C, 0x47, 0x46, CURRENT_FORM];
+// The mark of a form, at a block's start.
+pub const fn magic_of(form: u8) -> [u8; 4]
+    ensures { result ≡ magic_of form }
+{
+    [0x4C, 0x47, 0x46, form]
+}
 
 // In every block: its number, and its check.
 pub const NUMBER_PLACE: usize = 4;

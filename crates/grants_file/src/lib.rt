@@ -19,7 +19,6 @@ pub mod write_block;
 // A record counts from 1 in its block; its number is the grant's, as it stands there. `older` where the mark is that of the form before this one.
 #[derive(Clone, Copy)]
 pub enum Defect {
-    Sound,
     Length,
     Checksum {
         block: usize,
@@ -65,11 +64,4 @@ pub enum RecordFault {
     Reversed,
     RankTooLow,
     Doors,
-}
-
-// A block's answer: sound, with the number that the records of the next block must be above; or what is wrong in it.
-#[derive(Clone, Copy)]
-pub enum BlockAnswer {
-    Sound { last: u16 },
-    Wrong(Defect),
 }

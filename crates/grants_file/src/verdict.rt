@@ -3,13 +3,13 @@ ghost use Rattle.std.specs.Prelude.{◌≡◌};
 ghost use Rattle.model.specs.Answer.{outcome_answer};
 ghost use Rattle.grants_file.specs.Verdict.{file_causes, judging};
 
-use crate::defects::outcome_of;
 use crate::validate::validate;
-use model::Outcome;
+use model::Fault;
 
 // The verdict on any bytes as a file.
-pub fn judge(file: &[u8]) -> Outcome
+pub fn judge(file: &[u8]) -> Result<(), Fault>
     ensures { outcome_answer result ≡ (judging (file_causes file.now) file.now).answer }
 {
-    outcome_of(validate(file))
+    validate(file)?;
+    Ok(())
 }

@@ -1,53 +1,47 @@
 // Blocks written into lent bytes (document 01, "The grants file"), each over its 512 bytes.
 // A caller starts a block, stores its records behind the start, and seals it.
-ghost use Rattle.std.specs.Prelude.{◌≡◌, ◌-◌, ◌≤◌, ◌++◌, length, take, replicate};
+ghost use Rattle.std.specs.Prelude.{◌≡◌, ◌-◌, ◌≤◌, ◌++◌, take, replicate};
 ghost use Rattle.std.proofs.lemmas.List.Edits.{sets};
 ghost use Rattle.grants_file.specs.Bytes.{be16};
-ghost use Rattle.grants_file.specs.Layout.{block_bytes, checksum_place, magic};
+ghost use Rattle.grants_file.specs.Layout.{checksum_place, magic};
 ghost use Rattle.grants_file.specs.Block.{sealed, header_block};
 
 use crate::bytes::put_be16;
 use crate::layout::{
-    CHECKSUM_PLACE, COUNT_PLACE, FIRST_DOOR_PLACE, HEADER_END, LAST_DOOR_PLACE, MAGIC, NUMBER_PLACE,
+    BLOCK_BYTES, CHECKSUM_PLACE, COUNT_PLACE, CURRENT_FORM, FIRST_DOOR_PLACE, HEADER_END,
+    LAST_DOOR_PLACE, NUMBER_PLACE, magic_of,
 };
 use checksum::checksum;
 
 // Zeros from a place on up to the check.
-fn clear_padding(block: &mut [u8], start: usize)
-    requires { (length block.old ≡ block_bytes) × (start ≤ checksum_place) }
+fn clear_padding(block: &mut [u8; BLOCK_BYTES], start: usize)
+    requires { start ≤ checksum_place }
     ensures { block.new ≡ sets block.old start (replicate (checksum_place - start) 0) }
 {
-    let mut at = start;
-    while at < CHECKSUM_PLACE {
-        block[at] = 0;
-        at += 1;
-    }
+    block[start..CHECKSUM_PLACE].fill(0);
 }
 
 // Fills a block from a place on, and stores its check.
-pub fn seal(block: &mut [u8], start: usize)
-    requires { (length block.old ≡ block_bytes) × (start ≤ checksum_place) }
+#[tactic(auto, using(crate::proofs::WriteBlockSteps::seal_block))]
+pub fn seal(block: &mut [u8; BLOCK_BYTES], start: usize)
+    requires { start ≤ checksum_place }
     ensures { block.new ≡ sealed (take start block.old) }
 {
     clear_padding(block, start);
-    let check = checksum(&block[0..CHECKSUM_PLACE]);
+    let check = checksum(&block[..CHECKSUM_PLACE]);
     put_be16(block, CHECKSUM_PLACE, check);
 }
 
 // Document 01's mark.
-fn put_magic(block: &mut [u8])
-    requires { length block.old ≡ block_bytes }
+fn put_magic(block: &mut [u8; BLOCK_BYTES])
     ensures { block.new ≡ sets block.old 0 magic }
 {
-    block[0] = MAGIC[0];
-    block[1] = MAGIC[1];
-    block[2] = MAGIC[2];
-    block[3] = MAGIC[3];
+    let magic = magic_of(CURRENT_FORM);
+    block[..magic.len()].copy_from_slice(&magic);
 }
 
 // The mark, the block's number and the count that follows it.
-pub fn start_block(block: &mut [u8], number: u16, count: u16)
-    requires { length block.old ≡ block_bytes }
+pub fn start_block(block: &mut [u8; BLOCK_BYTES], number: u16, count: u16)
     ensures { block.new ≡ sets block.old 0 (magic ++ be16 number ++ be16 count) }
 {
     put_magic(block);
@@ -56,8 +50,7 @@ pub fn start_block(block: &mut [u8], number: u16, count: u16)
 }
 
 // Block 0 of a file of so many grants.
-pub fn write_header(block: &mut [u8], total: u16, from: u16, to: u16)
-    requires { length block.old ≡ block_bytes }
+pub fn write_header(block: &mut [u8; BLOCK_BYTES], total: u16, from: u16, to: u16)
     ensures { block.new ≡ header_block total (record { from = from; to = to }) }
 {
     start_block(block, 0, total);

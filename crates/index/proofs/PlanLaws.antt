@@ -8,18 +8,16 @@
 use Prim.Native.Nat.{ℕ, ◌-◌, ◌≤◌}
 use mathlib.Core.Path.{◌≡◌, sym, ap, subst, ◌∙◌}
 use mathlib.Core.Bool.{true, false}
-use mathlib.Core.List.{List}
-use mathlib.Core.Option.{none, some}
+use mathlib.Core.List.{List, []}
+use Rattle.std.proofs.Common.{None, Some, Result, Ok, Err}
+use Rattle.std.specs.Prelude.{⊤}
 use native.Mathlib.Omega.{arith}
 use lib.Dec.{eqb-suc-zero}
 use lib.ListN.{length}
 use Rattle.model.specs.declared.Fault.{Fault}
 use Rattle.model.specs.declared.Fault.TheVariants.{BadPool, AlreadyLive, BrokenLinks}
 use Rattle.model.specs.declared.RequestFault.{RequestFault}
-use Rattle.model.specs.declared.RequestCheck.{RequestCheck}
-use Rattle.model.specs.declared.RequestCheck.TheVariants.{Right, Wrong}
-use Rattle.model.specs.declared.Outcome.TheVariants as outcome
-use Rattle.model.specs.Answer.{outcome_answer}
+use Rattle.model.specs.Answer.{accepted, outcome_answer}
 use Rattle.model.specs.Refusal.{first_fault, refusing}
 use Rattle.model.specs.Arguments.{request_order, fault_of, request_causes, first_wrong}
 use Rattle.model.specs.Call.{Request, requested}
@@ -29,18 +27,18 @@ use Rattle.geometry.specs.Levels.{levels}
 use Rattle.pool.specs.Capacity.{Sized, wrong_length, wrong_pool}
 use Rattle.pool.specs.Fresh.{fresh_pool}
 use Rattle.pool.proofs.CapacityLaws.{cell_in_pool, capacity_of-pool_length}
+use Rattle.adt.specs.declared.Broken.{Broken}
+use Rattle.adt.specs.declared.remove.Terminal.{Terminal}
 use Rattle.adt.specs.Insert.{inserted}
-use Rattle.adt.specs.Remove.{terminal, follow, terminal_from, removed}
-use Rattle.adt.specs.Remove as remove
-use Rattle.adt.specs.WalkResult.{RemovalStep, Removable}
+use Rattle.adt.specs.Remove.{follow, terminal_from, removed}
+use Rattle.adt.specs.WalkResult.{removal_walk_of, RemovalStep, Removable}
 use Rattle.adt.proofs.WithinLaws.{follow-within}
 use Rattle.steps.specs.declared.insertion.Insertion.{Insertion}
-use Rattle.steps.specs.declared.insertion.Insertion.TheVariants as insertion
 use Rattle.steps.specs.Insertions.{InsertionPlanned, SlotPlanned}
 use Rattle.steps.proofs.InsertionLaws.{walk_causes, to_walks, absent_line}
-use Rattle.index.specs.declared.find.NumberHit.TheVariants as hit
-use Rattle.index.specs.declared.find.LiveHit.TheVariants as live
-use Rattle.index.specs.declared.revoke.Removal.TheVariants as removal
+use Rattle.index.specs.declared.find.NumberHit.{NumberHit}
+use Rattle.index.specs.declared.find.LiveHit.{LiveHit}
+use Rattle.index.specs.declared.revoke.Removal.{Removal}
 use Rattle.calls.specs.Walks.{number_search, removal_of}
 use Rattle.calls.specs.Causes.{grant_broken}
 use Rattle.calls.specs.Order.{start_order, grant_order}
@@ -52,114 +50,116 @@ use Rattle.index.proofs.LiveLineLaws.{revoke-refuses, revoke_goes_on}
 
 -- grant's line, as far as its tests have come
 module _ (w : List ℕ) (r : Request) where
-  pub grant_pool : wrong_pool w ≡ true → GrantPlanned w r (insertion.Refused BadPool)
+  pub grant_pool : wrong_pool w ≡ true → GrantPlanned w r (Err BadPool)
   unfolding InsertionPlanned grant_order first_fault
   grant_pool e = rw e
 
-  module _ (p : wrong_pool w ≡ false) {c : RequestCheck} (check : c ≡ first_wrong r request_order) where
+  module _ (p : wrong_pool w ≡ false) {c : Result ⊤ RequestFault} (check : c ≡ first_wrong r request_order) where
     -- what the check of the arguments says of their causes
     checked : first_fault (request_causes r) ≡ check_fault c
     checked = sym (first_wrong-fault r request_order) ∙ ap check_fault (sym check)
 
-    pub grant_wrong : {x : RequestFault} → c ≡ Wrong x → {f : Fault} → f ≡ fault_of x → GrantPlanned w r (insertion.Refused f)
+    pub grant_wrong : {x : RequestFault} → c ≡ Err x → {f : Fault} → f ≡ fault_of x → GrantPlanned w r (Err f)
     unfolding InsertionPlanned grant_order first_fault
     grant_wrong {x} e same = rw (p, same) (first_fault-front (request_causes r) (walk_causes w r) (fault_of x) (checked ∙ ap check_fault e))
 
-    module _ (right : c ≡ Right) where
-      faultless : first_fault (request_causes r) ≡ none
+    module _ {u : ⊤} (right : c ≡ Ok u) where
+      faultless : first_fault (request_causes r) ≡ None
       faultless = checked ∙ ap check_fault right
 
-      pub grant-broken : NumberFound w r.number hit.Broken → GrantPlanned w r (insertion.Refused BrokenLinks)
+      pub grant-broken : {b : Broken} → NumberFound w r.number (Err b) → GrantPlanned w r (Err BrokenLinks)
       unfolding InsertionPlanned NumberFound first_fault grant_broken
       grant-broken f = to_walks w r p faultless ∙ rw f
 
-      pub grant-live : (cell level link : ℕ) → NumberFound w r.number (hit.At cell level link)
-          → GrantPlanned w r (insertion.Refused AlreadyLive)
+      pub grant-live : (hit : NumberHit) → NumberFound w r.number (Ok (Some hit)) → GrantPlanned w r (Err AlreadyLive)
       unfolding InsertionPlanned NumberFound first_fault grant_broken
-      grant-live cell level link f = to_walks w r p faultless ∙ rw (f.found, eqb-suc-zero (length f.others))
+      grant-live hit f = to_walks w r p faultless ∙ rw (f.found, eqb-suc-zero (length f.others))
 
-      pub grant_absent : NumberFound w r.number hit.Absent → (plan : Insertion) → SlotPlanned w r plan → GrantPlanned w r plan
+      pub grant_absent : NumberFound w r.number (Ok None) → (plan : Result Insertion Fault) → SlotPlanned w r plan → GrantPlanned w r plan
       unfolding InsertionPlanned NumberFound
-      grant_absent f (insertion.Refused fault) e = absent_line w r p faultless f.unbroken f.none ∙ e
-      grant_absent f (insertion.At link parent free next) e =
-          record { passes = absent_line w r p faultless f.unbroken f.none ∙ e.passes; way = e.way; slot = e.slot }
+      grant_absent f (Err fault) e = absent_line w r p faultless f.unbroken f.none ∙ e
+      grant_absent f (Ok at) e = record { passes = absent_line w r p faultless f.unbroken f.none ∙ e.passes; way = e.way; slot = e.slot }
 
-  pub grant-refused : (fault : Fault) → GrantPlanned w r (insertion.Refused fault)
-      → Leaves (outcome_answer (outcome.Refused fault)) w (grant_call w r)
+  pub grant-refused : (fault : Fault) → GrantPlanned w r (Err fault) → Leaves (outcome_answer (Err fault)) w (grant_call w r)
   unfolding InsertionPlanned grant_call refusing
   grant-refused fault e = record { answered = rw e; left = rw e }
 
-  pub grant_done : (link parent free next : ℕ) {v : List ℕ} → GrantPlanned w r (insertion.At link parent free next) → v ≡ inserted w link parent (requested r)
-      → Leaves (outcome_answer outcome.Done) v (grant_call w r)
+  pub grant_done : (at : Insertion) {v : List ℕ} → GrantPlanned w r (Ok at) → v ≡ inserted w at.link at.parent (requested r)
+      → Leaves (accepted []) v (grant_call w r)
   unfolding InsertionPlanned grant_call refusing
-  grant_done link parent free next p e = record { answered = rw p.passes; left = e ∙ rw (p.passes, p.way) }
+  grant_done at p e = record { answered = rw p.passes; left = e ∙ rw (p.passes, p.way) }
 
 -- revoke's line, as far as its tests have come
 module _ (w : List ℕ) (n : ℕ) where
-  pub revoke-not-live : (f : Fault) → LiveFound w n (live.Refused f) → RemovalPlanned w n (removal.Refused f)
+  pub revoke-not-live : (f : Fault) → LiveFound w n (Err f) → RemovalPlanned w n (Err f)
   unfolding RemovalPlanned
   revoke-not-live f e = revoke-refuses w n f e
 
-  module _ (c cell level link : ℕ) (f : LiveFound w n (live.At c cell level link)) where
+  module _ (live : LiveHit) (f : LiveFound w n (Ok live)) where
     -- the removal walk is that of the first hit
-    walk : follow w c (levels - level) cell link 1 ≡ removal_of w (number_search w n)
+    walk : follow w live.cells (levels - live.level) live.cell live.link 1 ≡ removal_of w (number_search w n)
     unfolding LiveFound terminal_from
-    walk = rw (f.first.found, capacity_of-pool_length w c f.sized.long)
+    walk = rw (f.first.found, capacity_of-pool_length w live.cells f.sized.long)
 
-    hit_few : cell ≤ c
+    hit_few : live.cell ≤ live.cells
     unfolding LiveFound
-    hit_few = subst (λ (x : ℕ). cell ≤ x) (capacity_of-pool_length w c f.sized.long) f.first.few
+    hit_few = subst (λ (x : ℕ). live.cell ≤ x) (capacity_of-pool_length w live.cells f.sized.long) f.first.few
 
     -- the removal walk may begin at the first hit
-    pub hit_step : RemovalStep w c (levels - level) cell 1
+    pub hit_step : RemovalStep w live.cells (levels - live.level) live.cell 1
     unfolding LiveFound
     hit_step = record { sized = f.sized; deep = omega arith; some = f.first.some; few = hit_few; met-cells = f.sized.some }
 
-    pub revoke_removal_broken : remove.broken ≡ follow w c (levels - level) cell link 1 → RemovalPlanned w n (removal.Refused BrokenLinks)
-    unfolding RemovalPlanned LiveFound
-    revoke_removal_broken e = let broken = sym (e ∙ walk) in revoke_goes_on w n f.passes ∙ rw broken
+    module _ {r : Result Terminal Broken} (end : removal_walk_of r ≡ follow w live.cells (levels - live.level) live.cell live.link 1) where
+      pub revoke_removal_broken : {b : Broken} → r ≡ Err b → RemovalPlanned w n (Err BrokenLinks)
+      unfolding RemovalPlanned LiveFound
+      revoke_removal_broken met =
+          let broken = sym (sym (ap removal_walk_of met) ∙ end ∙ walk) in
+          revoke_goes_on w n f.passes ∙ rw broken
 
-    pub revoke_planned : (leaf cut : ℕ) → terminal leaf cut ≡ follow w c (levels - level) cell link 1
-        → RemovalPlanned w n (removal.Of c cell link leaf cut)
-    unfolding RemovalPlanned LiveFound
-    revoke_planned leaf cut e =
-        let ends = sym (e ∙ walk) in
-        let sized = f.sized in
-        let at = f.first in
-        let end = follow-within w c sized.long (levels - level) cell link 1 leaf cut at.some hit_few at.place (sym e) in
-        record {
-          sized = sized;
-          passes = revoke_goes_on w n f.passes ∙ rw ends;
-          first = rw at.found;
-          spot = rw at.found;
-          ends = ends;
-          inside =
-              record {
-                cell = cell_in_pool sized at.some hit_few;
-                terminal = cell_in_pool sized end.some end.few;
-                at = at.place;
-                cut_at = end.place;
-              };
-        }
+      pub revoke_planned : {t : Terminal} → r ≡ Ok t
+          → RemovalPlanned w n (Ok (record { cells = live.cells; cell = live.cell; link = live.link; leaf = t.cell; cut = t.link }))
+      unfolding RemovalPlanned LiveFound
+      revoke_planned {t} ended =
+          let at_end = sym (ap removal_walk_of ended) ∙ end in
+          let ends = sym (at_end ∙ walk) in
+          let sized = f.sized in
+          let at = f.first in
+          let inside = follow-within w live.cells sized.long (levels - live.level) live.cell live.link 1 t.cell t.link at.some hit_few at.place (sym at_end) in
+          record {
+            sized = sized;
+            passes = revoke_goes_on w n f.passes ∙ rw ends;
+            first = rw at.found;
+            spot = rw at.found;
+            ends = ends;
+            inside =
+                record {
+                  cell = cell_in_pool sized at.some hit_few;
+                  terminal = cell_in_pool sized inside.some inside.few;
+                  at = at.place;
+                  cut_at = inside.place;
+                };
+          }
 
-  pub plan_removes : (c cell link leaf cut : ℕ) → RemovalPlanned w n (removal.Of c cell link leaf cut) → Sized w c × Removable w cell link leaf cut
+  pub plan_removes : (p : Removal) → RemovalPlanned w n (Ok p) → Sized w p.cells × Removable w p.cell p.link p.leaf p.cut
   unfolding RemovalPlanned
-  plan_removes c cell link leaf cut p = (p.sized, p.inside)
+  plan_removes p planned = (planned.sized, planned.inside)
 
-  pub revoke-refused : (fault : Fault) → RemovalPlanned w n (removal.Refused fault) → Leaves (outcome_answer (outcome.Refused fault)) w (revoke_call w n)
+  pub revoke-refused : (fault : Fault) → RemovalPlanned w n (Err fault) → Leaves (outcome_answer (Err fault)) w (revoke_call w n)
   unfolding RemovalPlanned revoke_call refusing
   revoke-refused fault e = record { answered = rw e; left = rw e }
 
-  pub revoke_done : (c cell link leaf cut : ℕ) {v : List ℕ} → RemovalPlanned w n (removal.Of c cell link leaf cut) → v ≡ removed w cell link leaf cut
-      → Leaves (outcome_answer outcome.Done) v (revoke_call w n)
+  pub revoke_done : (p : Removal) {v : List ℕ} → RemovalPlanned w n (Ok p) → v ≡ removed w p.cell p.link p.leaf p.cut
+      → Leaves (accepted []) v (revoke_call w n)
   unfolding RemovalPlanned revoke_call refusing
-  revoke_done c cell link leaf cut p e = record { answered = rw p.passes; left = e ∙ rw (p.passes, p.ends, p.first, p.spot) }
+  revoke_done p planned e =
+      record { answered = rw planned.passes; left = e ∙ rw (planned.passes, planned.ends, planned.first, planned.spot) }
 
 module _ (w : List ℕ) where
-  pub start-refused : wrong_length w ≡ true → Leaves (outcome_answer (outcome.Refused BadPool)) w (start_call w)
+  pub start-refused : wrong_length w ≡ true → Leaves (outcome_answer (Err BadPool)) w (start_call w)
   unfolding start_call refusing start_order first_fault
   start-refused e = record { answered = rw e; left = rw e }
 
-  pub start_done : {c : ℕ} {v : List ℕ} → wrong_length w ≡ false → Sized w c → v ≡ fresh_pool c → Leaves (outcome_answer outcome.Done) v (start_call w)
+  pub start_done : {c : ℕ} {v : List ℕ} → wrong_length w ≡ false → Sized w c → v ≡ fresh_pool c → Leaves (accepted []) v (start_call w)
   unfolding start_call refusing start_order first_fault
   start_done {c} p s e = record { answered = rw p; left = e ∙ rw (p, capacity_of-pool_length w c s.long) }

@@ -5,59 +5,36 @@ ghost use Rattle.calls.specs.Calls.{grant_call};
 ghost use Rattle.calls.specs.Contract.{Leaves};
 ghost use Rattle.index.specs.Plans.{GrantPlanned};
 
-use crate::find::{NumberHit, find_number};
+use crate::find::find_number;
 use adt::insert::insert;
-use model::arguments::{check_request, fault_of};
-use model::{Box, Fault, Outcome, RequestCheck};
+use model::arguments::check_request;
+use model::{Box, Fault};
 use pool::layout::capacity;
 use steps::insertion::{Insertion, plan_slot, requested};
 
-// All walks and tests of grant, in document 01's order; nothing is written.
-fn plan_insertion(pool: &[u16], number: u16, rank: u8, kind: u8, bounds: Box) -> Insertion
+// All walks and tests of grant, in document 01's order; nothing is written. The kind is a number, as C and slips give it: 4 refuses one above 1.
+fn plan_insertion(
+    pool: &[u16],
+    number: u16,
+    rank: u8,
+    kind: u8,
+    bounds: Box,
+) -> Result<Insertion, Fault>
     ensures { GrantPlanned pool.now (request number rank kind bounds) result }
 {
-    let cells = capacity(pool);
-    if cells == 0 {
-        return Insertion::Refused(Fault::BadPool);
+    let cells = capacity(pool).ok_or(Fault::BadPool)?;
+    check_request(number, rank, kind, bounds)?;
+    if let Some(_) = find_number(pool, cells, number)? {
+        return Err(Fault::AlreadyLive);
     }
-    let check = check_request(number, rank, kind, bounds);
-    match check {
-        RequestCheck::Wrong(wrong) => return Insertion::Refused(fault_of(wrong)),
-        RequestCheck::Right => {}
-    }
-    let hit = find_number(pool, cells, number);
-    match hit {
-        NumberHit::Broken => Insertion::Refused(Fault::BrokenLinks),
-        NumberHit::At {
-            cell: _,
-            level: _,
-            link: _,
-        } => Insertion::Refused(Fault::AlreadyLive),
-        NumberHit::Absent => plan_slot(pool, cells, number, rank, kind, bounds),
-    }
+    plan_slot(pool, cells, requested(number, rank, kind, bounds))
 }
 
-pub fn grant(pool: &mut [u16], number: u16, rank: u8, kind: u8, bounds: Box) -> Outcome
+pub fn grant(pool: &mut [u16], number: u16, rank: u8, kind: u8, bounds: Box) -> Result<(), Fault>
     ensures { Leaves (outcome_answer result) pool.new (grant_call pool.old (request number rank kind bounds)) }
 {
-    let plan = plan_insertion(pool, number, rank, kind, bounds);
-    match plan {
-        Insertion::Refused(f) => Outcome::Refused(f),
-        Insertion::At {
-            link,
-            parent,
-            free,
-            next,
-        } => {
-            insert(
-                pool,
-                link,
-                parent,
-                free,
-                next,
-                requested(number, rank, kind, bounds),
-            );
-            Outcome::Done
-        }
-    }
+    let at = plan_insertion(pool, number, rank, kind, bounds)?;
+    let g = requested(number, rank, kind, bounds);
+    insert(pool, at.link, at.parent, at.free, at.next, g);
+    Ok(())
 }

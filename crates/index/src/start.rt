@@ -3,17 +3,14 @@ ghost use Rattle.model.specs.Answer.{outcome_answer};
 ghost use Rattle.calls.specs.Calls.{start_call};
 ghost use Rattle.calls.specs.Contract.{Leaves};
 
-use model::{Fault, Outcome};
+use model::Fault;
 use pool::fresh::make_fresh;
 use pool::layout::length_capacity;
 
-pub fn start(pool: &mut [u16]) -> Outcome
+pub fn start(pool: &mut [u16]) -> Result<(), Fault>
     ensures { Leaves (outcome_answer result) pool.new (start_call pool.old) }
 {
-    let cells = length_capacity(pool);
-    if cells == 0 {
-        return Outcome::Refused(Fault::BadPool);
-    }
+    let cells = length_capacity(pool).ok_or(Fault::BadPool)?;
     make_fresh(pool, cells);
-    Outcome::Done
+    Ok(())
 }

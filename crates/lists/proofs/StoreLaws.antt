@@ -1,17 +1,15 @@
--- A run of stores, one more at a time, as a loop makes it.
+-- A run of stores, one more at a time.
 --   sets_take_suc         the store at j after those before it
---   sets_turn, sets_end   a turn of such a loop, and its end
 --   get_d_sets_same, get_d_sets_other   reads after it, of the places stored and of others
 -- Assumes nothing.
 use Prim.Native.Nat.{ℕ, zero, suc, ◌+◌, ◌<◌, ◌≤◌}
-use mathlib.Core.Path.{◌≡◌, refl, sym, ap, ◌∙◌}
+use mathlib.Core.Path.{◌≡◌, refl, ap, ◌∙◌}
 use mathlib.Core.Logic.{◌≢◌}
 use mathlib.Core.List.{List, [], ◌∷◌}
 use native.Mathlib.Nat.{add-zero, add-suc, suc-add}
-use native.Mathlib.Numerals.{add-one}
 use native.Mathlib.Omega.{arith}
 use lib.ListN.{length, get_or, take, set, length-set}
-use lib.Seq.{sets, take_all, get_or-set_same, get_or-set_other}
+use lib.Seq.{sets, get_or-set_same, get_or-set_other}
 
 pub sets_take_suc : (l : List ℕ) (i : ℕ) (ws : List ℕ) (j : ℕ) → j < length ws
     → sets l i (take (suc j) ws) ≡ set (sets l i (take j ws)) (i + j) (get_or ws j 0)
@@ -19,13 +17,6 @@ sets_take_suc l i [] j h = absurd (omega arith)
 sets_take_suc l i (x ∷ ws) zero h = rw (add-zero i)
 sets_take_suc l i (x ∷ ws) (suc j) h =
     sets_take_suc (set l i x) (suc i) ws j (omega arith) ∙ rw (add-suc i j, suc-add i j)
-
-pub sets_turn : (l stored : List ℕ) (at i : ℕ) (ws : List ℕ) → i < length ws → stored ≡ sets l at (take i ws)
-    → set stored (at + i) (get_or ws i 0) ≡ sets l at (take (i + 1) ws)
-sets_turn l stored at i ws h e = rw (e, add-one i) (sym (sets_take_suc l at ws i h))
-
-pub sets_end : (l stored : List ℕ) (at i : ℕ) (ws : List ℕ) → length ws ≤ i → stored ≡ sets l at (take i ws) → stored ≡ sets l at ws
-sets_end l stored at i ws h e = rw (e, take_all i ws h)
 
 -- reads after a run of stores
 pub get_d_sets_other : (l : List ℕ) (i : ℕ) (vs : List ℕ) (j d : ℕ) → ((m : ℕ) → m < length vs → j ≢ i + m) → get_or (sets l i vs) j d ≡ get_or l j d

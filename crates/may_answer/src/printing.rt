@@ -1,67 +1,83 @@
-// The answer to `may` (specs/MayText), put piece by piece at a place of a lent line that has room for it. Each function answers the next
-// place; any question and any decision is taken.
-ghost use Rattle.std.specs.Prelude.{◌≡◌, ◌+◌, ◌≤◌, length, take};
-ghost use Rattle.text.specs.Put.{Put, Counts};
+// The answer to `may` (specs/MayText), put piece by piece at the end of a line that has room for it. Any question and any decision is taken.
+ghost use Rattle.std.specs.Prelude.{◌≡◌, ◌++◌, ◌+◌, ◌≤◌, length};
+ghost use Rattle.arrayvec.specs.ArrayVec.{array_vec_len};
 ghost use Rattle.may_answer.specs.MayText.{question_text, deciding_text, verdict_text, may_text};
 
-use calendar::Base;
+use arrayvec::ArrayVec;
+use calendar::Date;
 use calendar::note::put_note;
-use model::{Decision, Grant};
+use model::{Decision, Fault, Grant};
 use panel::rows::{put_heads, put_row, put_times};
 use text::put::{put_byte, put_numbered, put_text};
 
 // Room for the longest answer: 102 bytes of question, 229 of decision.
 pub const ANSWER_BYTES: usize = 331;
 
-// The question, from the start of the line.
-fn put_question(out: &mut [u8], staff: u16, door: u16, quarter: u16, base: Base) -> usize
-    requires { 102 ≤ length out.old }
-    ensures { Put out.old 0 (question_text staff door quarter base) result out.new × (result ≤ 102) }
+fn put_question<const N: usize>(
+    line: &mut ArrayVec<u8, N>,
+    staff: u16,
+    door: u16,
+    quarter: u16,
+    base: Option<Date>,
+)
+    requires { array_vec_len line.old + 102 ≤ N }
+    ensures items { line.new.items ≡ line.old.items ++ question_text staff door quarter base }
+    ensures len { array_vec_len line.new ≤ array_vec_len line.old + 102 }
 {
-    let second = put_numbered(out, 0, b"staff ", staff as usize);
-    let third = put_numbered(out, second, b", door ", door as usize);
-    let end = put_numbered(out, third, b", quarter ", quarter as usize);
-    put_note(out, end, base, quarter)
+    put_numbered(line, b"staff ", usize::from(staff));
+    put_numbered(line, b", door ", usize::from(door));
+    put_numbered(line, b", quarter ", usize::from(quarter));
+    put_note(line, base, quarter);
 }
 
 // The grant that decides, behind the word for its kind.
-fn put_deciding(out: &mut [u8], at: usize, word: &[u8], g: Grant, base: Base) -> usize
-    requires { at + length word.now + 210 ≤ length out.old }
-    ensures { Put out.old at (deciding_text word.now g base) result out.new
-        × (result ≤ at + length word.now + 210) }
+fn put_deciding<const N: usize>(
+    line: &mut ArrayVec<u8, N>,
+    word: &[u8],
+    g: Grant,
+    base: Option<Date>,
+)
+    requires { array_vec_len line.old + length word.now + 210 ≤ N }
+    ensures items { line.new.items ≡ line.old.items ++ deciding_text word.now g base }
+    ensures len { array_vec_len line.new ≤ array_vec_len line.old + length word.now + 210 }
 {
-    let first = put_numbered(out, at, word, g.number as usize);
-    let heads = put_byte(out, first, b'\n');
-    let row = put_heads(out, heads);
-    let times = put_row(out, row, g);
-    let end = put_times(out, times, g, base);
-    put_byte(out, end, b'\n')
+    put_numbered(line, word, usize::from(g.number));
+    put_byte(line, b'\n');
+    put_heads(line);
+    put_row(line, g);
+    put_times(line, g, base);
+    put_byte(line, b'\n');
 }
 
-fn put_decision(out: &mut [u8], at: usize, decision: Decision, base: Base) -> usize
-    requires { at + 229 ≤ length out.old }
-    ensures { Put out.old at (verdict_text decision base) result out.new × (result ≤ at + 229) }
+fn put_decision<const N: usize>(
+    line: &mut ArrayVec<u8, N>,
+    decided: Result<Decision, Fault>,
+    base: Option<Date>,
+)
+    requires { array_vec_len line.old + 229 ≤ N }
+    ensures items { line.new.items ≡ line.old.items ++ verdict_text decided base }
+    ensures len { array_vec_len line.new ≤ array_vec_len line.old + 229 }
 {
-    match decision {
-        Decision::Opens(g) => put_deciding(out, at, b": OPENS, by grant ", g, base),
-        Decision::Barred(g) => put_deciding(out, at, b": BARRED, by grant ", g, base),
-        Decision::None => put_text(out, at, b": NO GRANT, do not open\n\n"),
-        Decision::Refused(_) => put_byte(out, at, b'\n'),
+    match decided {
+        Ok(Decision::Opens(g)) => put_deciding(line, b": OPENS, by grant ", g, base),
+        Ok(Decision::Barred(g)) => put_deciding(line, b": BARRED, by grant ", g, base),
+        Ok(Decision::None) => put_text(line, b": NO GRANT, do not open\n\n"),
+        Err(_) => put_byte(line, b'\n'),
     }
 }
 
-// The whole answer, where decide answered this of a staff number, a door and a quarter. Answers how many bytes it has.
+// The whole answer, where decide answered this of a staff number, a door and a quarter.
 pub fn may_text(
     staff: u16,
     door: u16,
     quarter: u16,
-    base: Base,
-    decision: Decision,
-    out: &mut [u8; ANSWER_BYTES],
-) -> usize
-    ensures out_after { take result out.new ≡ may_text staff door quarter base decision }
-    ensures counts { Counts result out.new }
+    base: Option<Date>,
+    decided: Result<Decision, Fault>,
+) -> ArrayVec<u8, ANSWER_BYTES>
+    ensures { result.items ≡ may_text staff door quarter base decided }
 {
-    let at = put_question(out, staff, door, quarter, base);
-    put_decision(out, at, decision, base)
+    let mut answer = ArrayVec::new();
+    put_question(&mut answer, staff, door, quarter, base);
+    put_decision(&mut answer, decided, base);
+    answer
 }

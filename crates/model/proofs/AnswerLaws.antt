@@ -1,8 +1,9 @@
--- Each case of each answer enum has document 01's numbers for itself alone: every answer of specs/Answer reads back.
+-- Each result of a call has document 01's numbers for itself alone: every answer of specs/Answer reads back.
 --   fault_of number values        the fault of a number and its values; grant_of values the grant of its values
 --   refusal_injective            two faults with one refusal are one fault
+--   answer_of_injective          two results with one answer are one, where what they give is told by its values: so
 --   outcome_answer_injective, listed_answer_injective, decision_answer_injective, counted_answer_injective, written_answer_injective,
---   matched_answer_injective      two answers of an enum with the same numbers are one answer
+--   matched_answer_injective
 --   refusal-accepted             a refusal is never an accepted answer
 -- Assumes nothing.
 use Prim.Native.Nat.{ℕ}
@@ -12,29 +13,21 @@ use mathlib.Core.List.{List, [], ◌∷◌}
 use lib.Dec.{eqb}
 use lib.ListN.{length, get_or, drop}
 use native.Mathlib.Omega.{arith}
-use Rattle.model.specs.declared.Kind.{Kind}
-use Rattle.model.specs.declared.Kind.TheVariants as kind
+use Rattle.std.proofs.Common.{Option, None, Some, Result, Ok, Err}
+use Rattle.std.specs.Bool.{⊤}
 use Rattle.model.specs.declared.Grant.{Grant}
 use Rattle.model.specs.declared.Fault.{Fault}
 use Rattle.model.specs.declared.Fault.TheVariants.{BadPool, Reversed, ZeroNumber, UnknownKind, AlreadyLive, Full, NotLive, ListTooShort}
 use Rattle.model.specs.declared.Fault.TheVariants.{BrokenLinks, BadLength, BadLayout, BadChecksum, BadRecord, BufferTooShort, RankTooLow}
 use Rattle.model.specs.declared.Fault.TheVariants.{BadOpeningsLength, UnorderedQuarters}
-use Rattle.model.specs.declared.Outcome.{Outcome}
-use Rattle.model.specs.declared.Outcome.TheVariants as outcome
-use Rattle.model.specs.declared.Listed.{Listed}
-use Rattle.model.specs.declared.Listed.TheVariants as listed
+use Rattle.model.specs.declared.Cells.{Cells}
 use Rattle.model.specs.declared.Decision.{Decision}
 use Rattle.model.specs.declared.Decision.TheVariants as decision
-use Rattle.model.specs.declared.Counted.{Counted}
-use Rattle.model.specs.declared.Counted.TheVariants as counted
-use Rattle.model.specs.declared.Written.{Written}
-use Rattle.model.specs.declared.Written.TheVariants as written
-use Rattle.model.specs.declared.Matched.{Matched}
-use Rattle.model.specs.declared.Matched.TheVariants as matched
-use Rattle.model.specs.Kind.{kind_number, kind_of}
+use Rattle.model.specs.Kind.{kind_of}
 use Rattle.model.specs.Grant.{grant_values}
-use Rattle.model.specs.Answer.{Answer, accepted, refused, refusal, outcome_answer, listed_answer, decision_answer, counted_answer, written_answer}
-use Rattle.model.specs.Answer.{matched_answer}
+use Rattle.model.specs.Answer.{Answer, accepted, refused, refusal, answer_of, outcome_answer, listed_answer, decision_values, decision_answer}
+use Rattle.model.specs.Answer.{counted_answer, written_answer, matched_values, matched_answer}
+use Rattle.model.proofs.ArgumentLaws.{kind_of_kind_number}
 
 -- what reads back is one-to-one
 injective_by : {A B : Type 0} (f : A → B) (g : B → A) → ((a : A) → g (f a) ≡ a) → (a b : A) → f a ≡ f b → a ≡ b
@@ -82,38 +75,25 @@ refusal_injective = injective_by refusal fault_in fault_in_refusal
 pub refusal-accepted : (f : Fault) (values : List ℕ) → refusal f ≡ accepted values → ⊥
 refusal-accepted f values e = let z : ◌≡◌ {A = ℕ} 0 1 = cc in omega arith
 
--- an answer's case, from its numbers: `read` takes the values of an accepted one, `refuse` the fault of a refusal
-abbrev read_back : {A : Type 0} → (List ℕ → A) → (Fault → A) → Answer → A
-read_back read refuse (accepted values) = read values
-read_back read refuse (refused number values) = refuse (fault_of number values)
-
-read_back_refusal : {A : Type 0} (read : List ℕ → A) (refuse : Fault → A) (f : Fault) → read_back read refuse (refusal f) ≡ refuse f
+-- what an accepted answer gives reads back by `read`, what a refusal tells as its fault
+pub answer_of_injective : {T : Type 0} (values : T → List ℕ) (read : List ℕ → T) → ((x : T) → read (values x) ≡ x) → (a b : Result T Fault)
+    → answer_of values a ≡ answer_of values b → a ≡ b
 unfolding fault_in
-read_back_refusal read refuse f = ap refuse (fault_in_refusal f)
-
-pub outcome_answer_injective : (a b : Outcome) → outcome_answer a ≡ outcome_answer b → a ≡ b
-outcome_answer_injective = injective_by outcome_answer (read_back read outcome.Refused) back
+answer_of_injective {T} values read back = injective_by (answer_of values) result back_of
   where
-    read : List ℕ → Outcome
-    read values = outcome.Done
+    result : Answer → Result T Fault
+    result (accepted xs) = Ok (read xs)
+    result (refused number xs) = Err (fault_of number xs)
 
-    back : (a : Outcome) → read_back read outcome.Refused (outcome_answer a) ≡ a
-    back outcome.Done = refl
-    back (outcome.Refused f) = read_back_refusal read outcome.Refused f
+    back_of : (a : Result T Fault) → result (answer_of values a) ≡ a
+    back_of (Ok x) = ap Ok (back x)
+    back_of (Err f) = ap Err (fault_in_refusal f)
 
-pub listed_answer_injective : (a b : Listed) → listed_answer a ≡ listed_answer b → a ≡ b
-listed_answer_injective = injective_by listed_answer (read_back read listed.Refused) back
-  where
-    read : List ℕ → Listed
-    read values = listed.Count (get_or values 0 0)
+pub outcome_answer_injective : (a b : Result ⊤ Fault) → outcome_answer a ≡ outcome_answer b → a ≡ b
+outcome_answer_injective = answer_of_injective _ (λ values. tt) (λ done. refl)
 
-    back : (a : Listed) → read_back read listed.Refused (listed_answer a) ≡ a
-    back (listed.Count n) = refl
-    back (listed.Refused f) = read_back_refusal read listed.Refused f
-
-kind_of_kind_number : (k : Kind) → kind_of (kind_number k) ≡ k
-kind_of_kind_number kind.Bars = refl
-kind_of_kind_number kind.Opens = refl
+pub listed_answer_injective : (a b : Result ℕ Fault) → listed_answer a ≡ listed_answer b → a ≡ b
+listed_answer_injective = answer_of_injective _ (λ values. get_or values 0 0) (λ n. refl)
 
 -- a grant from its values, in document 01's order
 grant_of : List ℕ → Grant
@@ -140,47 +120,32 @@ grant_of_grant_values g = λ i. record { number = g.number; rank = g.rank; kind 
 pub grant_values_injective : (g h : Grant) → grant_values g ≡ grant_values h → g ≡ h
 grant_values_injective = injective_by grant_values grant_of grant_of_grant_values
 
-pub decision_answer_injective : (a b : Decision) → decision_answer a ≡ decision_answer b → a ≡ b
-decision_answer_injective = injective_by decision_answer (read_back read decision.Refused) back
+pub decision_answer_injective : (a b : Result Decision Fault) → decision_answer a ≡ decision_answer b → a ≡ b
+decision_answer_injective = answer_of_injective decision_values read back
   where
     read : List ℕ → Decision
     read values =
         let g = grant_of (drop 1 values) in
         cond (eqb (get_or values 0 0) 0) decision.None (cond (eqb (get_or values 0 0) 1) (decision.Opens g) (decision.Barred g))
 
-    back : (a : Decision) → read_back read decision.Refused (decision_answer a) ≡ a
+    back : (d : Decision) → read (decision_values d) ≡ d
     back decision.None = refl
     back (decision.Opens g) = ap decision.Opens (grant_of_grant_values g)
     back (decision.Barred g) = ap decision.Barred (grant_of_grant_values g)
-    back (decision.Refused f) = read_back_refusal read decision.Refused f
 
-pub counted_answer_injective : (a b : Counted) → counted_answer a ≡ counted_answer b → a ≡ b
-counted_answer_injective = injective_by counted_answer (read_back read counted.Refused) back
+pub counted_answer_injective : (a b : Result Cells Fault) → counted_answer a ≡ counted_answer b → a ≡ b
+counted_answer_injective =
+    answer_of_injective _ (λ values. record { live = get_or values 0 0; free = get_or values 1 0 }) (λ c. refl)
+
+pub written_answer_injective : (a b : Result ℕ Fault) → written_answer a ≡ written_answer b → a ≡ b
+written_answer_injective = answer_of_injective _ (λ values. get_or values 0 0) (λ n. refl)
+
+pub matched_answer_injective : (a b : Result (Option ℕ) Fault) → matched_answer a ≡ matched_answer b → a ≡ b
+matched_answer_injective = answer_of_injective matched_values read back
   where
-    read : List ℕ → Counted
-    read values = counted.Cells (get_or values 0 0) (get_or values 1 0)
+    read : List ℕ → Option ℕ
+    read values = cond (eqb (length values) 0) None (Some (get_or values 0 0))
 
-    back : (a : Counted) → read_back read counted.Refused (counted_answer a) ≡ a
-    back (counted.Cells live free) = refl
-    back (counted.Refused f) = read_back_refusal read counted.Refused f
-
-pub written_answer_injective : (a b : Written) → written_answer a ≡ written_answer b → a ≡ b
-written_answer_injective = injective_by written_answer (read_back read written.Refused) back
-  where
-    read : List ℕ → Written
-    read values = written.Length (get_or values 0 0)
-
-    back : (a : Written) → read_back read written.Refused (written_answer a) ≡ a
-    back (written.Length n) = refl
-    back (written.Refused f) = read_back_refusal read written.Refused f
-
-pub matched_answer_injective : (a b : Matched) → matched_answer a ≡ matched_answer b → a ≡ b
-matched_answer_injective = injective_by matched_answer (read_back read matched.Refused) back
-  where
-    read : List ℕ → Matched
-    read values = cond (eqb (length values) 0) matched.Equal (matched.Differs (get_or values 0 0))
-
-    back : (a : Matched) → read_back read matched.Refused (matched_answer a) ≡ a
-    back matched.Equal = refl
-    back (matched.Differs n) = refl
-    back (matched.Refused f) = read_back_refusal read matched.Refused f
+    back : (o : Option ℕ) → read (matched_values o) ≡ o
+    back None = refl
+    back (Some n) = refl

@@ -11,7 +11,8 @@ use Prim.Native.Nat.{ℕ, zero, suc, ◌≤◌}
 use mathlib.Core.Path.{◌≡◌, refl, sym, subst}
 use mathlib.Core.Bool.{Bool, true, false, cond}
 use mathlib.Core.List.{List, [], ◌∷◌, map}
-use mathlib.Core.Option.{Option, none, some}
+use Rattle.std.proofs.Common.{Option, None, Some, Result, Ok, Err}
+use Rattle.std.specs.Bool.{⊤}
 use native.Mathlib.Omega.{arith}
 use borrow.Author.Tests.{eqb-false, ltb-false}
 use Rattle.model.specs.declared.Fault.{Fault}
@@ -19,8 +20,6 @@ use Rattle.model.specs.declared.Grant.{Grant}
 use Rattle.model.specs.declared.Kind.{Kind}
 use Rattle.model.specs.declared.Kind.TheVariants.{Bars, Opens}
 use Rattle.model.specs.declared.RequestFault.{RequestFault}
-use Rattle.model.specs.declared.RequestCheck.{RequestCheck}
-use Rattle.model.specs.declared.RequestCheck.TheVariants.{Right, Wrong}
 use Rattle.model.specs.Kind.{kind_number, kind_of}
 use Rattle.model.specs.Call.{Request, requested, request_of}
 use Rattle.model.specs.Refusal.{◌if◌, first_fault}
@@ -28,9 +27,9 @@ use Rattle.model.specs.Judged.{NoneOf, none_more}
 use Rattle.model.specs.Arguments.{reversed_box, wrong_in, fault_of, request_causes, first_wrong}
 
 -- the fault of what a check found
-abbrev pub check_fault : RequestCheck → Option Fault
-check_fault Right = none
-check_fault (Wrong x) = some (fault_of x)
+abbrev pub check_fault : Result ⊤ RequestFault → Option Fault
+check_fault (Ok done) = None
+check_fault (Err x) = Some (fault_of x)
 
 pub first_wrong-fault : (r : Request) (xs : List RequestFault) → check_fault (first_wrong r xs) ≡ first_fault (map (λ x. fault_of x if wrong_in r x) xs)
 unfolding first_wrong first_fault
@@ -38,7 +37,7 @@ first_wrong-fault r [] = refl
 first_wrong-fault r (x ∷ xs) = go (wrong_in r x) (first_wrong-fault r xs)
   where
     go : (b : Bool) → check_fault (first_wrong r xs) ≡ first_fault (map (λ y. fault_of y if wrong_in r y) xs)
-        → check_fault (cond b (Wrong x) (first_wrong r xs)) ≡ cond b (some (fault_of x)) (first_fault (map (λ y. fault_of y if wrong_in r y) xs))
+        → check_fault (cond b (Err x) (first_wrong r xs)) ≡ cond b (Some (fault_of x)) (first_fault (map (λ y. fault_of y if wrong_in r y) xs))
     go true rest = refl
     go false rest = rest
 

@@ -8,7 +8,7 @@ use Prim.Native.Nat.{ℕ}
 use mathlib.Core.Path.{◌≡◌, refl, ap, ◌∙◌}
 use mathlib.Core.Bool.{true}
 use mathlib.Core.List.{List, [], ◌∷◌, map}
-use mathlib.Core.Option.{Option, none, some}
+use Rattle.std.proofs.Common.{Option, None, Some, Ok}
 use lib.ListN.{length, take}
 use lib.Seq.{take_at}
 use Rattle.lists.specs.Tests.{every}
@@ -36,8 +36,8 @@ unfolding refusing
 refusing-capacity cs b lent d e = go (first_fault cs)
   where
     go : (o : Option Fault) → (step_by o b lent d).state.capacity ≡ b.capacity
-    go none = e
-    go (some f) = refl
+    go None = e
+    go (Some f) = refl
 
 pub book_step-capacity : (b : Book) (c : Call) → (book_step b c).state.capacity ≡ b.capacity
 unfolding book_step book_grant book_revoke book_list book_decide book_count
@@ -47,11 +47,11 @@ book_step-capacity b (list q choice lent) = refusing-capacity _ b lent _ refl
 book_step-capacity b (decide staff door quarter) = refl
 book_step-capacity b count = refl
 
-decision_sound : (k : Kind) (g : Grant) → sound_answer (decision_answer (decision_of k g)) ≡ true
+decision_sound : (k : Kind) (g : Grant) → sound_answer (decision_answer (Ok (decision_of k g))) ≡ true
 decision_sound Bars g = refl
 decision_sound Opens g = refl
 
-pub decide_among_sound : (gs : List Grant) → sound_answer (decision_answer (decide_among gs)) ≡ true
+pub decide_among_sound : (gs : List Grant) → sound_answer (decision_answer (Ok (decide_among gs))) ≡ true
 unfolding decide_among
 decide_among_sound [] = refl
 decide_among_sound (g ∷ gs) = decision_sound (deciding_of g gs).kind (deciding_of g gs)

@@ -7,8 +7,8 @@ pub mod Simulation
 pub mod RefusalLaws
 pub mod SoundLaws
 pub mod BookLaws
+pub mod ArgumentLaws
 pub mod AnswerLaws
 pub mod GrantLaws
 pub mod SeniorityLaws
-pub mod ArgumentLaws
 pub mod JudgedLaws

@@ -1,5 +1,4 @@
 -- Laws of how a grant stands to a box (specs/Relation).
---   apart_by, holds_by, touches-by        the answer by the two tests
 --   holds_box_iff                          the test is the condition
 --   apart_iff, touches_iff, holds_iff     when each answer of the three is given, on every two boxes
 --   holds-overlaps                        holding a box that fault 2 lets through is overlapping it
@@ -28,19 +27,6 @@ use Rattle.model.specs.Relation.{HoldsBox, holds_range, holds_box, relation_of, 
 use Rattle.model.specs.Book.{taken_for}
 use Rattle.model.proofs.OverlapLaws.{overlaps_iff}
 use Rattle.model.proofs.QuarterLaws.{forward_box}
-
-module _ (a b : Box) where
-  pub apart_by : overlaps a b ≡ false → Apart ≡ relation_of a b
-  unfolding relation_of
-  apart_by e = rw e refl
-
-  pub holds_by : overlaps a b ≡ true → holds_box a b ≡ true → Holds ≡ relation_of a b
-  unfolding relation_of
-  holds_by e h = rw (e, h) refl
-
-  pub touches-by : overlaps a b ≡ true → holds_box a b ≡ false → Touches ≡ relation_of a b
-  unfolding relation_of
-  touches-by e h = rw (e, h) refl
 
 holds_range_iff : (from to asked-from asked-to : ℕ) → T (holds_range from to asked-from asked-to) ↔ ((from ≤ asked-from) × (asked-to ≤ to))
 holds_range_iff from to asked-from asked-to = (

@@ -7,7 +7,7 @@
 use Prim.Native.Nat.{ℕ}
 use mathlib.Core.Path.{◌≡◌, refl, ap₂}
 use mathlib.Core.List.{List, [], ◌∷◌, Memᴰ}
-use mathlib.Core.Option.{Option, none, some}
+use Rattle.std.proofs.Common.{Option, None, Some}
 use Rattle.model.specs.declared.Fault.{Fault}
 use Rattle.model.specs.Refusal.{Cause, Step, first_fault, step_by, refusing}
 use Rattle.model.specs.Call.{Call}
@@ -18,15 +18,15 @@ pub record Agrees {W S : Type 0} (R : W → S → Type 0) (x : Step W) (y : Step
   pub related : R x.state y.state
 
 pub refusing-agrees : {W S : Type 0} (R : W → S → Type 0) {w : W} {s : S} (cs ds : List Cause) (lent : List ℕ) (x : Step W) (y : Step S) → R w s
-    → first_fault cs ≡ first_fault ds → (first_fault ds ≡ none → Agrees R x y) → Agrees R (refusing cs w lent x) (refusing ds s lent y)
+    → first_fault cs ≡ first_fault ds → (first_fault ds ≡ None → Agrees R x y) → Agrees R (refusing cs w lent x) (refusing ds s lent y)
 unfolding refusing
 refusing-agrees R {w} {s} cs ds lent x y r e f = rw e (go (first_fault ds) f)
   where
-    go : (o : Option Fault) → (o ≡ none → Agrees R x y) → Agrees R (step_by o w lent x) (step_by o s lent y)
-    go none f = f refl
-    go (some fault) f = record { same = refl; related = r }
+    go : (o : Option Fault) → (o ≡ None → Agrees R x y) → Agrees R (step_by o w lent x) (step_by o s lent y)
+    go None f = f refl
+    go (Some fault) f = record { same = refl; related = r }
 
-pub accepting_agrees : {W S : Type 0} (R : W → S → Type 0) (cs : List Cause) (w : W) (lent : List ℕ) (x : Step W) (y : Step S) → first_fault cs ≡ none
+pub accepting_agrees : {W S : Type 0} (R : W → S → Type 0) (cs : List Cause) (w : W) (lent : List ℕ) (x : Step W) (y : Step S) → first_fault cs ≡ None
     → Agrees R x y → Agrees R (refusing cs w lent x) y
 unfolding refusing
 accepting_agrees R cs w lent x y e a = rw e a

@@ -8,7 +8,7 @@ use mathlib.Core.Logic.{◌≢◌}
 use mathlib.Core.Path.{◌≡◌, refl, sym, ap, ◌∙◌}
 use mathlib.Core.Bool.{Bool, true, false, not, cond, ◌&&◌, ◌||◌, and-eq-true_iff, or-false, false≢true}
 use mathlib.Core.List.{List, [], ◌∷◌}
-use mathlib.Core.Option.{Option, none, some}
+use Rattle.std.proofs.Common.{Option, None, Some}
 use native.Mathlib.Omega.{arith}
 use lib.Dec.{eqb}
 use Rattle.lists.specs.Tests.{every}
@@ -32,15 +32,15 @@ pub sound_answer_lem : (a : Answer) → sound_answer a ≡ true → (a ≢ refus
 sound_answer_lem a h = (λ e. false≢true (sym (ap sound_answer e) ∙ h), λ e. false≢true (sym (ap sound_answer e) ∙ h))
 
 -- the first fault of such causes
-first_sound : (cs : List Cause) → every sound_cause cs ≡ true → (f : Fault) → first_fault cs ≡ some f → sound_number (fault_number f) ≡ true
+first_sound : (cs : List Cause) → every sound_cause cs ≡ true → (f : Fault) → first_fault cs ≡ Some f → sound_number (fault_number f) ≡ true
 unfolding every first_fault
 first_sound [] e f q = absurd (let z : ◌≡◌ {A = ℕ} 0 1 = cc in omega arith)
 first_sound (c ∷ cs) e f q =
     let both = (and-eq-true_iff (sound_cause c) (every sound_cause cs)).0 e in
     go c.present both.0 q (first_sound cs both.1 f)
   where
-    go : (b : Bool) → (sound_number (fault_number c.fault) || not b) ≡ true → cond b (some c.fault) (first_fault cs) ≡ some f
-        → (first_fault cs ≡ some f → sound_number (fault_number f) ≡ true) → sound_number (fault_number f) ≡ true
+    go : (b : Bool) → (sound_number (fault_number c.fault) || not b) ≡ true → cond b (Some c.fault) (first_fault cs) ≡ Some f
+        → (first_fault cs ≡ Some f → sound_number (fault_number f) ≡ true) → sound_number (fault_number f) ≡ true
     go true h i rest =
         let same : c.fault ≡ f = cc in
         ap (λ (x : Fault). sound_number (fault_number x)) (sym same) ∙ sym (or-false (sound_number (fault_number c.fault))) ∙ h
@@ -51,6 +51,6 @@ pub refusing_sound : {S : Type 0} (cs : List Cause) (s : S) (lent : List ℕ) (d
 unfolding refusing
 refusing_sound {S} cs s lent d e h = go (first_fault cs) (first_sound cs e)
   where
-    go : (o : Option Fault) → ((f : Fault) → o ≡ some f → sound_number (fault_number f) ≡ true) → sound_answer (step_by o s lent d).answer ≡ true
-    go none k = h
-    go (some f) k = k f refl
+    go : (o : Option Fault) → ((f : Fault) → o ≡ Some f → sound_number (fault_number f) ≡ true) → sound_answer (step_by o s lent d).answer ≡ true
+    go None k = h
+    go (Some f) k = k f refl

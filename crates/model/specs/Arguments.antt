@@ -11,14 +11,12 @@
 --                      (grants_file/specs/Defects), and a file's set has no grant with one (grants_file/specs/FileSets)
 --   first_wrong r xs    the first of xs that is wrong in r
 -- Assumes nothing: these are definitions.
-use Rattle.std.specs.Prelude.{ℕ, Bool, cond, ◌||◌, List, [], ◌∷◌, map, ltb, eqb}
+use Rattle.std.specs.Prelude.{ℕ, Bool, cond, ◌||◌, List, [], ◌∷◌, map, ltb, eqb, Result, Ok, Err, ⊤}
 use Rattle.model.specs.declared.Box.{Box}
 use Rattle.model.specs.declared.Fault.{Fault}
 use Rattle.model.specs.declared.Fault.TheVariants as fault
 use Rattle.model.specs.declared.RequestFault.{RequestFault}
 use Rattle.model.specs.declared.RequestFault.TheVariants.{ZeroNumber, UnknownKind, Reversed, RankTooLow}
-use Rattle.model.specs.declared.RequestCheck.{RequestCheck}
-use Rattle.model.specs.declared.RequestCheck.TheVariants.{Right, Wrong}
 use Rattle.model.specs.Interval.{Interval, reversed}
 use Rattle.model.specs.Quarters.{no_quarters}
 use Rattle.model.specs.Box.{staff_of, doors_of, quarters_of}
@@ -56,6 +54,6 @@ fault_of RankTooLow = fault.RankTooLow
 abbrev pub request_causes : Request → List Cause
 request_causes r = map (λ x. fault_of x if wrong_in r x) request_order
 
-unfoldable pub first_wrong : Request → List RequestFault → RequestCheck
-first_wrong r [] = Right
-first_wrong r (x ∷ xs) = cond (wrong_in r x) (Wrong x) (first_wrong r xs)
+unfoldable pub first_wrong : Request → List RequestFault → Result ⊤ RequestFault
+first_wrong r [] = Ok tt
+first_wrong r (x ∷ xs) = cond (wrong_in r x) (Err x) (first_wrong r xs)

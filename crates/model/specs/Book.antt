@@ -4,7 +4,7 @@
 --   book_grant .. book_count   one definition a call: its refusals in document 01's order, then what it gives
 --   book_step b c         the step of a call
 -- The book never gives 1 or 9. Assumes nothing: these are definitions.
-use Rattle.std.specs.Prelude.{ℕ, ◌-◌, Bool, not, List, [], ◌∷◌, ◌++◌, map, ltb, eqb, length}
+use Rattle.std.specs.Prelude.{ℕ, ◌-◌, Bool, not, List, [], ◌∷◌, ◌++◌, map, ltb, eqb, length, Ok}
 use Rattle.lists.specs.Tests.{filter, any}
 use Rattle.lists.specs.Overwrite.{overwrite}
 use Rattle.lists.specs.Sort.{insert_by}
@@ -15,7 +15,7 @@ use Rattle.model.specs.declared.Fault.TheVariants.{Reversed, ZeroNumber, Already
 use Rattle.model.specs.Box.{point_box}
 use Rattle.model.specs.Overlap.{overlaps}
 use Rattle.model.specs.Relation.{taken}
-use Rattle.model.specs.Answer.{Answer, accepted, decision_answer}
+use Rattle.model.specs.Answer.{accepted, decision_answer}
 use Rattle.model.specs.Refusal.{Step, ◌if◌, refusing}
 use Rattle.model.specs.Arguments.{reversed_box, zero_number, request_causes}
 use Rattle.model.specs.Decide.{decide_among}
@@ -78,7 +78,7 @@ unfoldable pub book_decide : Book → ℕ → ℕ → ℕ → Step Book
 book_decide b staff door quarter =
     record {
       state = b;
-      answer = decision_answer (decide_among (overlapping (point_box staff door quarter) b.live));
+      answer = decision_answer (Ok (decide_among (overlapping (point_box staff door quarter) b.live)));
       lent = [];
     }
 

@@ -4,10 +4,10 @@
 --   size_of i          how many numbers lie in it; none in a reversed one
 -- Assumes nothing: these are definitions.
 use Rattle.std.specs.Prelude.{ℕ, suc, ◌-◌, Bool, ◌&&◌, leb, ltb}
+use Rattle.model.specs.declared.Interval as declared
 
-pub record Interval : Type 0 where
-  pub from : ℕ
-  pub to : ℕ
+abbrev pub Interval : Type 0
+Interval = declared.Interval
 
 abbrev pub reversed : Interval → Bool
 reversed i = ltb i.to i.from

@@ -6,10 +6,10 @@
 --   coverable q       a grant can cover the quarter q
 -- Assumes nothing: these are definitions.
 use Rattle.std.specs.Prelude.{ℕ, Bool, ◌&&◌, leb, ltb}
+use Rattle.model.specs.declared.Quarters as declared
 
-pub record Quarters : Type 0 where
-  pub from : ℕ
-  pub to : ℕ
+abbrev pub Quarters : Type 0
+Quarters = declared.Quarters
 
 abbrev pub no_quarters : Quarters → Bool
 no_quarters r = leb r.to r.from

@@ -4,8 +4,7 @@
 --   Step S                      what a call gives: its answer, the state after it, the lent memory after it
 --   refusing causes s lent d    the first cause that holds answers and leaves s and lent as they were; else d
 -- Assumes nothing: these are definitions.
-use Rattle.std.specs.Prelude.{ℕ, Bool, cond, List, [], ◌∷◌}
-use Rattle.std.proofs.Math.Option.{Option, none, some}
+use Rattle.std.specs.Prelude.{ℕ, Bool, cond, List, [], ◌∷◌, Option, None, Some}
 use Rattle.model.specs.declared.Fault.{Fault}
 use Rattle.model.specs.Answer.{Answer, refusal}
 
@@ -23,12 +22,12 @@ pub record Step (S : Type 0) : Type 0 where
   pub lent : List ℕ
 
 unfoldable pub first_fault : List Cause → Option Fault
-first_fault [] = none
-first_fault (c ∷ cs) = cond c.present (some c.fault) (first_fault cs)
+first_fault [] = None
+first_fault (c ∷ cs) = cond c.present (Some c.fault) (first_fault cs)
 
 abbrev pub step_by : {S : Type 0} → Option Fault → S → List ℕ → Step S → Step S
-step_by none s lent done = done
-step_by (some f) s lent done = record { state = s; answer = refusal f; lent = lent }
+step_by None s lent done = done
+step_by (Some f) s lent done = record { state = s; answer = refusal f; lent = lent }
 
 unfoldable pub refusing : {S : Type 0} → List Cause → S → List ℕ → Step S → Step S
 refusing causes s lent done = step_by (first_fault causes) s lent done

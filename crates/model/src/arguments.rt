@@ -6,35 +6,38 @@ ghost use Rattle.model.specs.Call.{request};
 
 use crate::bounds::is_reversed;
 use crate::seniority::is_rank_too_low;
-use crate::{Box, Fault, RequestCheck, RequestFault};
+use crate::{Box, Fault, RequestFault};
 
 // The tests of a request, in grant's order.
-pub fn check_request(number: u16, rank: u8, kind: u8, bounds: Box) -> RequestCheck
+#[tactic(auto, unfolding(crate::specs::Arguments::first_wrong))]
+pub fn check_request(number: u16, rank: u8, kind: u8, bounds: Box) -> Result<(), RequestFault>
     ensures { result ≡ first_wrong (request number rank kind bounds) request_order }
 {
     if number == 0 {
-        return RequestCheck::Wrong(RequestFault::ZeroNumber);
+        return Err(RequestFault::ZeroNumber);
     }
     if 1 < kind {
-        return RequestCheck::Wrong(RequestFault::UnknownKind);
+        return Err(RequestFault::UnknownKind);
     }
     if is_reversed(bounds) {
-        return RequestCheck::Wrong(RequestFault::Reversed);
+        return Err(RequestFault::Reversed);
     }
-    if is_rank_too_low(rank, bounds.door_from, bounds.door_to) {
-        return RequestCheck::Wrong(RequestFault::RankTooLow);
+    if is_rank_too_low(rank, bounds.doors()) {
+        return Err(RequestFault::RankTooLow);
     }
-    RequestCheck::Right
+    Ok(())
 }
 
 // The fault that grant answers.
-pub fn fault_of(wrong: RequestFault) -> Fault
-    ensures { result ≡ fault_of wrong }
-{
-    match wrong {
-        RequestFault::ZeroNumber => Fault::ZeroNumber,
-        RequestFault::UnknownKind => Fault::UnknownKind,
-        RequestFault::Reversed => Fault::Reversed,
-        RequestFault::RankTooLow => Fault::RankTooLow,
+impl From<RequestFault> for Fault {
+    ghost from_gives = { λ wrong f. f ≡ fault_of wrong };
+
+    fn from(wrong: RequestFault) -> Fault {
+        match wrong {
+            RequestFault::ZeroNumber => Fault::ZeroNumber,
+            RequestFault::UnknownKind => Fault::UnknownKind,
+            RequestFault::Reversed => Fault::Reversed,
+            RequestFault::RankTooLow => Fault::RankTooLow,
+        }
     }
 }

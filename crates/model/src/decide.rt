@@ -22,16 +22,11 @@ pub fn point_box(staff: u16, door: u16, quarter: u16) -> Box
 }
 
 // Whether the first grant decides over the second: by the higher rank, at equal rank by the higher number.
+#[tactic(auto, unfolding(crate::specs::Decide::outranks))]
 pub fn outranks(g: Grant, h: Grant) -> bool
     ensures { result ≡ outranks g h }
 {
-    if h.rank < g.rank {
-        return true;
-    }
-    if g.rank == h.rank {
-        return h.number < g.number;
-    }
-    false
+    h.rank < g.rank || g.rank == h.rank && h.number < g.number
 }
 
 // The answer by the kind of the grant that decides, with the whole grant.

@@ -1,9 +1,10 @@
 // Document 01's number of a fault, and the value that it returns beside the number. The one place of src that has them.
-ghost use Rattle.std.specs.Prelude.{◌≡◌, ◌<◌, get_or};
+ghost use Rattle.std.specs.Prelude.{◌≡◌, ◌<◌, option_to_list};
 ghost use Rattle.model.specs.Fault.{fault_number, fault_values};
 
 use crate::Fault;
 
+// Not numbers of the enum's own, which cases with values can't be cast to.
 pub fn fault_number(f: Fault) -> usize
     ensures { (result ≡ fault_number f) × (result < 100) }
 {
@@ -28,27 +29,16 @@ pub fn fault_number(f: Fault) -> usize
     }
 }
 
-// The first value beside the number, a count, a length or a block; 0 where there is none.
-pub fn fault_value(f: Fault) -> usize
-    ensures { result ≡ get_or (fault_values f) 0 0 }
+// The value beside the number, a count, a length or a block, where there is one.
+pub fn fault_value(f: Fault) -> Option<usize>
+    ensures { option_to_list result ≡ fault_values f }
 {
     match f {
-        Fault::BadPool => 0,
-        Fault::Reversed => 0,
-        Fault::ZeroNumber => 0,
-        Fault::UnknownKind => 0,
-        Fault::AlreadyLive => 0,
-        Fault::Full => 0,
-        Fault::NotLive => 0,
-        Fault::ListTooShort { needed } => needed,
-        Fault::BrokenLinks => 0,
-        Fault::BadLength => 0,
-        Fault::BadLayout { block } => block,
-        Fault::BadChecksum { block } => block,
-        Fault::BadRecord { block } => block,
-        Fault::BufferTooShort { needed } => needed,
-        Fault::RankTooLow => 0,
-        Fault::BadOpeningsLength => 0,
-        Fault::UnorderedQuarters => 0,
+        Fault::ListTooShort { needed } => Some(needed),
+        Fault::BadLayout { block } => Some(block),
+        Fault::BadChecksum { block } => Some(block),
+        Fault::BadRecord { block } => Some(block),
+        Fault::BufferTooShort { needed } => Some(needed),
+        _ => None,
     }
 }

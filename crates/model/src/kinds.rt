@@ -4,17 +4,22 @@ ghost use Rattle.model.specs.Kind.{kind_of, kind_number};
 
 use crate::Kind;
 
-pub fn kind_number(kind: Kind) -> u8
-    ensures { (result ≡ kind_number kind) × (result < 2) }
-{
-    match kind {
-        Kind::Bars => 0,
-        Kind::Opens => 1,
+impl From<Kind> for u8 {
+    ghost from_gives = { λ kind n. (n ≡ kind_number kind) × (n < 2) };
+
+    fn from(kind: Kind) -> u8 {
+        match kind {
+            Kind::Bars => 0,
+            Kind::Opens => 1,
+        }
     }
 }
 
-pub fn kind_of(number: u8) -> Kind
-    ensures { result ≡ kind_of number }
-{
-    if number == 1 { Kind::Opens } else { Kind::Bars }
+impl Kind {
+    // No TryFrom: a number above 1 is refused by `check_request`, which asks the number itself; here it counts as bars.
+    pub fn of(number: u8) -> Kind
+        ensures { result ≡ kind_of number }
+    {
+        if number == 1 { Kind::Opens } else { Kind::Bars }
+    }
 }

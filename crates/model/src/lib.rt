@@ -8,21 +8,20 @@ pub mod decide;
 pub mod faults;
 pub mod kinds;
 pub mod relations;
-pub mod same;
 pub mod seniority;
 
 // Document 01's highest C, and the highest n of a file.
 pub const MAX_GRANTS: usize = 2048;
 
 // Document 01's kind of a grant: 0 bars, 1 opens.
-#[derive(Clone, Copy)]
+#[derive(Clone, Copy, PartialEq, Eq)]
 pub enum Kind {
     Bars,
     Opens,
 }
 
 // Document 01's box. Both ends of staff and of doors belong to it; quarter_to is the first quarter that it doesn't cover (document 02, card 2).
-#[derive(Clone, Copy)]
+#[derive(Clone, Copy, PartialEq, Eq)]
 pub struct Box {
     pub staff_from: u16,
     pub staff_to: u16,
@@ -32,8 +31,22 @@ pub struct Box {
     pub quarter_to: u16,
 }
 
-// Document 01's grant.
+// A closed range of staff or doors: both ends belong to it.
 #[derive(Clone, Copy)]
+pub struct Interval {
+    pub from: u16,
+    pub to: u16,
+}
+
+// A range of quarters: its to is the first quarter that it doesn't cover.
+#[derive(Clone, Copy)]
+pub struct Quarters {
+    pub from: u16,
+    pub to: u16,
+}
+
+// Document 01's grant.
+#[derive(Clone, Copy, PartialEq, Eq)]
 pub struct Grant {
     pub number: u16,
     pub rank: u8,
@@ -42,7 +55,7 @@ pub struct Grant {
 }
 
 // How a grant stands to a box: they don't overlap, they do, or it holds all of the box (document 02, card 4).
-#[derive(Clone, Copy)]
+#[derive(Clone, Copy, PartialEq, Eq)]
 pub enum Relation {
     Apart,
     Touches,
@@ -87,54 +100,17 @@ pub enum RequestFault {
     RankTooLow,
 }
 
-// Whether a request for a grant is right, or what is wrong in it first.
-#[derive(Clone, Copy)]
-pub enum RequestCheck {
-    Right,
-    Wrong(RequestFault),
-}
-
-// The answer of a call that returns nothing when it is accepted: start, grant, revoke, load, and block read's verdict.
-#[derive(Clone, Copy)]
-pub enum Outcome {
-    Done,
-    Refused(Fault),
-}
-
-// The answer of list: how many numbers were written.
-#[derive(Clone, Copy)]
-pub enum Listed {
-    Count(usize),
-    Refused(Fault),
-}
-
 // The answer of decide: opens with the whole grant, barred with the whole grant, or none.
 #[derive(Clone, Copy)]
 pub enum Decision {
     Opens(Grant),
     Barred(Grant),
     None,
-    Refused(Fault),
 }
 
-// The answer of count: the live grants, and C less live.
+// What count tells of a pool's cells: the live grants, and C less live.
 #[derive(Clone, Copy)]
-pub enum Counted {
-    Cells { live: usize, free: usize },
-    Refused(Fault),
-}
-
-// The answer of write: the file's length.
-#[derive(Clone, Copy)]
-pub enum Written {
-    Length(usize),
-    Refused(Fault),
-}
-
-// The answer of match: equal, or the lowest grant number at which the pool and the file differ.
-#[derive(Clone, Copy)]
-pub enum Matched {
-    Equal,
-    Differs(u16),
-    Refused(Fault),
+pub struct Cells {
+    pub live: usize,
+    pub free: usize,
 }

@@ -2,6 +2,8 @@
 ghost use Rattle.std.specs.Prelude.{◌≡◌};
 ghost use Rattle.model.specs.Seniority.{rank_too_low};
 
+use crate::Interval;
+
 // The most doors of a grant below the senior rank.
 pub const MAX_JUNIOR_DOORS: usize = 1000;
 
@@ -9,11 +11,8 @@ pub const MAX_JUNIOR_DOORS: usize = 1000;
 pub const SENIOR_RANK: u8 = 200;
 
 // Whether a grant's rank is too low for its doors: fault 16. With MAX_JUNIOR_DOORS between its ends a range has one door more.
-pub fn is_rank_too_low(rank: u8, door_from: u16, door_to: u16) -> bool
-    ensures { result ≡ rank_too_low rank (record { from = door_from; to = door_to }) }
+pub fn is_rank_too_low(rank: u8, doors: Interval) -> bool
+    ensures { result ≡ rank_too_low rank doors }
 {
-    if SENIOR_RANK <= rank {
-        return false;
-    }
-    door_from as usize + MAX_JUNIOR_DOORS <= door_to as usize
+    rank < SENIOR_RANK && usize::from(doors.from) + MAX_JUNIOR_DOORS <= usize::from(doors.to)
 }

@@ -3,7 +3,6 @@
 --   sorted_places-room                           what the sort leaves, in memory for as many
 --   to_go r i s j                                how many agree of the entries from i on in the one order, and from j on in the other
 --   agreeing_starts, agreeing_turn              all, and after a turn of the comparison
---   agreeing_moves                              a turn goes on in one record at least
 --   agreeing_few                                no more agree than a record has entries
 --   agreeing_ends-left, agreeing_ends_right     none where either record is used up
 -- Assumes nothing.
@@ -12,10 +11,8 @@ use mathlib.Core.Path.{◌≡◌, sym, ap, ◌∙◌}
 use mathlib.Core.Bool.{cond}
 use mathlib.Core.List.{List}
 use native.Mathlib.Omega.{arith}
-use native.Mathlib.Decide.{dec_le}
 use lib.Dec.{eqb, leb}
 use lib.ListN.{length, get_or, drop}
-use borrow.Author.Tests.{le-leb}
 use Rattle.lists.specs.Sort.{sort_by}
 use Rattle.lists.specs.Ranges.{count_from}
 use Rattle.lists.proofs.ElementLaws.{get_d_map, mem_get_d}
@@ -26,7 +23,7 @@ use Rattle.multisets.specs.Agreement.{agree}
 use Rattle.multisets.proofs.AgreementLaws.{agree-sorted, agree-left-total}
 use Rattle.multisets.proofs.MergeLaws.{merge_turn, merge_ends-left, merge_ends_right}
 use Rattle.openings.specs.Entry.{entries_in, entry_at, entries_of}
-use Rattle.openings.specs.Sorted.{Room, sorted_places}
+use Rattle.openings.specs.Sorted.{sorted_places}
 use Rattle.openings.proofs.EntryLaws.{length-entries}
 
 abbrev sorted : List ℕ → List ℕ
@@ -57,9 +54,10 @@ module _ (r : List ℕ) where
       ∙ get_d_map (entry_at r) (sorted_places r) i 0 0 h
 
 -- the places as the sort leaves them
-pub sorted_places-room : (r places sorted : List ℕ) → Room r places → sorted ≡ sort_by (entry_at r) (count_from 0 (length places)) → sorted ≡ sorted_places r
+pub sorted_places-room : (r places sorted : List ℕ) → length places ≡ entries_in r
+    → sorted ≡ sort_by (entry_at r) (count_from 0 (length places)) → sorted ≡ sorted_places r
 unfolding sorted_places
-sorted_places-room r places sorted room e = e ∙ ap (λ (n : ℕ). sort_by (entry_at r) (count_from 0 n)) room.room
+sorted_places-room r places sorted room e = e ∙ ap (λ (n : ℕ). sort_by (entry_at r) (count_from 0 n)) room
 
 pub agreeing_starts : (r s : List ℕ) → to_go r 0 s 0 ≡ agree (entries_of r) (entries_of s)
 agreeing_starts r s = agree-sorted (entries_of r) (entries_of s)
@@ -79,13 +77,6 @@ pub agreeing_again : (r s : List ℕ) (i j n m x y e a b : ℕ) → i < length (
     → n + to_go r i s j ≡ m → (n + e) + to_go r (i + a) s (j + b) ≡ m
 agreeing_again r s i j n m x y e a b h l at_x at_y is-e is-a is_b so_far =
     rw (is-e, is-a, is_b, at_x, at_y) (omega (arith, agreeing_turn r s i j h l))
-
-pub agreeing_moves : (x y : ℕ) → 1 ≤ cond (leb x y) 1 0 + cond (leb y x) 1 0
-agreeing_moves x y = go (dec_le x y)
-  where
-    go : Dec (x ≤ y) → 1 ≤ cond (leb x y) 1 0 + cond (leb y x) 1 0
-    go (yes h) = rw (le-leb x y h) (omega arith)
-    go (no n) = rw (le-leb y x (omega arith)) (omega arith)
 
 pub agreeing_few : (r s : List ℕ) → agree (entries_of r) (entries_of s) ≤ length (sorted_places r)
 agreeing_few r s = omega (arith, agree-left-total (entries_of r) (entries_of s), length-entries r, length-sorted_places r)

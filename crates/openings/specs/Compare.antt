@@ -1,22 +1,21 @@
 -- The comparison of a door record with a panel record (document 02, card 13): how many entries agree, how many are left in the door record, how many
 -- in the panel record.
---   compared_answer c          an answer in numbers
+--   compared_answer r          an answer in numbers
 --   openings_order door panel  its refusals, in their order: 24 is tested on both records before 25 is
 --   compare_call door panel    what the call answers; both records stay as they were
 -- Assumes nothing: these are definitions.
-use Rattle.std.specs.Prelude.{ℕ, ◌||◌, List, [], ◌∷◌}
+use Rattle.std.specs.Prelude.{ℕ, ◌||◌, List, [], ◌∷◌, Result}
 use Rattle.multisets.specs.Agreement.{agree, left}
+use Rattle.model.specs.declared.Fault.{Fault}
 use Rattle.model.specs.declared.Fault.TheVariants.{BadOpeningsLength, UnorderedQuarters}
-use Rattle.model.specs.Answer.{Answer, accepted, refusal}
+use Rattle.model.specs.Answer.{Answer, accepted, answer_of}
 use Rattle.model.specs.Refusal.{Cause, ◌if◌, Step, refusing}
-use Rattle.openings.specs.declared.Compared.{Compared}
-use Rattle.openings.specs.declared.Compared.TheVariants.{Entries, Refused}
+use Rattle.openings.specs.declared.Comparison.{Comparison}
 use Rattle.openings.specs.Entry.{entries_of}
 use Rattle.openings.specs.Record.{wrong_size, unordered}
 
-abbrev pub compared_answer : Compared → Answer
-compared_answer (Entries agreeing leftInDoor leftInPanel) = accepted (agreeing ∷ leftInDoor ∷ leftInPanel ∷ [])
-compared_answer (Refused f) = refusal f
+abbrev pub compared_answer : Result Comparison Fault → Answer
+compared_answer = answer_of (λ c. c.agreeing ∷ c.left_in_door ∷ c.left_in_panel ∷ [])
 
 unfoldable pub openings_order : List ℕ → List ℕ → List Cause
 openings_order door panel =

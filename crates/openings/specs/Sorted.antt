@@ -1,6 +1,5 @@
 -- What the comparison goes by: the places of a record in the order of their entries. Contracts of inner functions cite these; no claim does.
 --   SizedRecord r     the bytes are whole entries, and not too many
---   Room r places     the record is sized, and there are as many places as it has entries
 --   sorted_places r    the places of the entries, from the lowest entry on
 -- Assumes nothing: these are definitions.
 use Rattle.std.specs.Prelude.{ℕ, ◌*◌, ◌≤◌, ◌≡◌, List, length}
@@ -11,10 +10,6 @@ use Rattle.openings.specs.Entry.{entry_bytes, max_entries, entries_in, entry_at}
 pub record SizedRecord (r : List ℕ) : Type 0 where
   pub whole : length r ≡ entry_bytes * entries_in r
   pub few : entries_in r ≤ max_entries
-
-pub record Room (r places : List ℕ) : Type 0 where
-  pub sized : SizedRecord r
-  pub room : length places ≡ entries_in r
 
 unfoldable pub sorted_places : List ℕ → List ℕ
 sorted_places r = sort_by (entry_at r) (count_from 0 (entries_in r))

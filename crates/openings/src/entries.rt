@@ -1,5 +1,5 @@
 // The entries of a record (specs/Entry).
-ghost use Rattle.std.specs.Prelude.{◌≡◌, cond, ◌<◌, ◌≤◌};
+ghost use Rattle.std.specs.Prelude.{◌≡◌, ◌<◌};
 ghost use Rattle.openings.specs.Entry.{entry_quarter, opening_of, entries_in, entry_at};
 
 use crate::{ENTRY_BYTES, Opening};
@@ -35,14 +35,4 @@ pub fn opening_of(entry: u64) -> Opening
         quarter: quarter_of(entry),
         staff: (entry % 4294967296) as u32,
     }
-}
-
-// 1 where a test holds, and 0 where not.
-pub fn one_if(test: bool) -> usize
-    ensures { (result ≡ cond test 1 0) × (result ≤ 1) }
-{
-    if test {
-        return 1;
-    }
-    0
 }

@@ -3,10 +3,10 @@ ghost use Rattle.std.specs.Prelude.{◌≡◌, ◌<◌, ◌≤◌, take};
 ghost use Rattle.multisets.specs.Multiplicity.{count};
 ghost use Rattle.multisets.specs.Agreement.{is_left};
 ghost use Rattle.openings.specs.Entry.{entries_in, entries_of};
-ghost use Rattle.openings.specs.Left.{next_left, left_from};
+ghost use Rattle.openings.specs.Left.{left_from};
 
 use crate::LeftEntry;
-use crate::entries::{entries_in, entry_at, one_if, opening_of};
+use crate::entries::{entries_in, entry_at, opening_of};
 
 // How often an entry stands among the first n of a record.
 fn count_among(bytes: &[u8], n: usize, entry: u64) -> usize
@@ -14,10 +14,8 @@ fn count_among(bytes: &[u8], n: usize, entry: u64) -> usize
     ensures { result ≡ count entry (take n (entries_of bytes.now)) }
 {
     let mut found: usize = 0;
-    let mut i: usize = 0;
-    while i < n {
-        found += one_if(entry_at(bytes, i) == entry);
-        i += 1;
+    for i in 0..n {
+        found += usize::from(entry_at(bytes, i) == entry);
     }
     found
 }
@@ -31,31 +29,17 @@ fn is_left(bytes: &[u8], other: &[u8], place: usize) -> bool
     count_among(other, entries_in(other), entry) <= count_among(bytes, place, entry)
 }
 
-// The first place from `from` on at which an entry is left.
-fn next_left(bytes: &[u8], other: &[u8], from: usize) -> usize
-    ensures { result ≡ next_left bytes.now other.now from }
-{
-    let count = entries_in(bytes);
-    let mut i = from;
-    while i < count {
-        if is_left(bytes, other, i) {
-            return i;
-        }
-        i += 1;
-    }
-    i
-}
-
 // The first entry of the record from a place on that is left.
-pub fn left_from(bytes: &[u8], other: &[u8], from: usize) -> LeftEntry
+pub fn left_from(bytes: &[u8], other: &[u8], from: usize) -> Option<LeftEntry>
     ensures { result ≡ left_from bytes.now other.now from }
 {
-    let place = next_left(bytes, other, from);
-    if entries_in(bytes) <= place {
-        return LeftEntry::None;
+    for place in from..entries_in(bytes) {
+        if is_left(bytes, other, place) {
+            return Some(LeftEntry {
+                number: place + 1,
+                opening: opening_of(entry_at(bytes, place)),
+            });
+        }
     }
-    LeftEntry::At {
-        number: place + 1,
-        opening: opening_of(entry_at(bytes, place)),
-    }
+    None
 }

@@ -8,7 +8,6 @@ pub mod defects;
 mod entries;
 pub mod left;
 
-use model::Fault;
 use radix_sort::{KEY_BYTES, MAX_KEYS};
 
 // An entry's bytes: door, quarter and staff.
@@ -29,7 +28,6 @@ pub struct Opening {
 // numbered as people count: from 1.
 #[derive(Clone, Copy)]
 pub enum RecordDefect {
-    Sound,
     NotWhole {
         bytes: usize,
     },
@@ -43,20 +41,17 @@ pub enum RecordDefect {
     },
 }
 
-// The answer of the comparison: how many entries agree, and how many are left in the door record and in the panel record.
+// How many entries of two records agree, and how many are left in the door record and in the panel record.
 #[derive(Clone, Copy)]
-pub enum Compared {
-    Entries {
-        agreeing: usize,
-        left_in_door: usize,
-        left_in_panel: usize,
-    },
-    Refused(Fault),
+pub struct Comparison {
+    pub agreeing: usize,
+    pub left_in_door: usize,
+    pub left_in_panel: usize,
 }
 
-// An entry that is left, with its number, counted from 1, which is the place behind it; or none is.
+// An entry that is left, with its number, counted from 1, which is the place behind it.
 #[derive(Clone, Copy)]
-pub enum LeftEntry {
-    At { number: usize, opening: Opening },
-    None,
+pub struct LeftEntry {
+    pub number: usize,
+    pub opening: Opening,
 }

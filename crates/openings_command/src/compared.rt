@@ -1,88 +1,64 @@
 // The answer of the comparison: how many entries agree, how many are left in each record, and which.
 use crate::left::say_left;
 use crate::records::{ROOM, read_record};
-use atomic_file::first;
-use calendar::Base;
-use console::output::{Stream, answers, put, put_number, warn};
+use calendar::Date;
+use console::output::{Stream, Unwritten, answers, warn};
 use console::status::{Ending, answered};
-use openings::Compared;
+use openings::Comparison;
 use openings::compare::compare_openings;
 
-fn say_counts(
-    rt: HostRuntime,
-    agreeing: usize,
-    left_in_door: usize,
-    left_in_panel: usize,
-) -> Stream {
-    let out = put(put_number(answers(rt), agreeing), b" agree, ");
-    let out = put(put_number(out, left_in_door), b" left in the door record, ");
-    put(
-        put_number(out, left_in_panel),
-        b" left in the panel record\n",
-    )
+// What two sound records have in common, and what is left in each.
+fn say_compared(
+    out: Stream,
+    compared: Comparison,
+    door: &[u8],
+    panel: &[u8],
+    base: Option<Date>,
+) -> Result<(), Unwritten> {
+    let Comparison {
+        agreeing,
+        left_in_door,
+        left_in_panel,
+    } = compared;
+    write!(
+        out,
+        "{agreeing} agree, {left_in_door} left in the door record, {left_in_panel} left in the panel record\n"
+    )?;
+    say_left(out, "door", left_in_door, door, panel, base)?;
+    say_left(out, "panel", left_in_panel, panel, door, base)
 }
 
-// Done where nothing is left in either record.
-fn ending_of(left_in_door: usize, left_in_panel: usize) -> Ending {
-    if left_in_door != 0 {
+// Compares two sound records: done where nothing is left in either.
+fn compare_sound(rt: HostRuntime, door: &[u8], panel: &[u8], base: Option<Date>) -> Ending {
+    let Ok(compared) = compare_openings(door, panel) else {
+        warn(rt, b"grants: the records are refused\n");
         return Ending::No;
-    }
-    if left_in_panel != 0 {
-        return Ending::No;
-    }
-    Ending::Done
-}
-
-// Compares two sound records, and says what they have in common and what is left.
-fn compare_sound(rt: HostRuntime, door: &[u8], panel: &[u8], base: Base) -> Ending {
-    let compared = compare_openings(door, panel);
-    match compared {
-        Compared::Entries {
-            agreeing,
-            left_in_door,
-            left_in_panel,
-        } => {
-            let counts = say_counts(rt, agreeing, left_in_door, left_in_panel);
-            let one = say_left(counts, b"door", left_in_door, door, panel, base);
-            let both = say_left(one, b"panel", left_in_panel, panel, door, base);
-            answered(both, ending_of(left_in_door, left_in_panel))
-        }
-        Compared::Refused(_) => {
-            warn(rt, b"grants: the records are refused\n");
-            Ending::No
-        }
-    }
-}
-
-// The worse of two endings.
-fn worse(one: Ending, other: Ending) -> Ending {
-    match one {
-        Ending::Done => other,
-        Ending::No => match other {
-            Ending::Done => Ending::No,
-            Ending::No => Ending::No,
-            Ending::Failed => Ending::Failed,
-        },
-        Ending::Failed => Ending::Failed,
-    }
-}
-
-// Both records are looked at before the command ends, so that a person hears of both.
-pub fn compare_records(rt: HostRuntime, door_name: &[u8], panel_name: &[u8], base: Base) -> Ending {
-    let mut door = [0u8; ROOM];
-    let mut panel = [0u8; ROOM];
-    let of_door = read_record(rt, door_name, &mut door);
-    let of_panel = read_record(rt, panel_name, &mut panel);
-    let door_ending = of_door.ending;
-    let panel_ending = of_panel.ending;
-    let ending = worse(door_ending, panel_ending);
-    let Ending::Done = ending else {
-        return ending;
     };
-    compare_sound(
-        rt,
-        first(&door, of_door.bytes),
-        first(&panel, of_panel.bytes),
-        base,
+    let ending = if compared.left_in_door == 0 && compared.left_in_panel == 0 {
+        Ending::Done
+    } else {
+        Ending::No
+    };
+    answered(
+        say_compared(answers(rt), compared, door, panel, base),
+        ending,
     )
+}
+
+// Both records are looked at before the command ends, so that a person hears of both. It ends as the worse of the two.
+pub fn compare_records(
+    rt: HostRuntime,
+    door_name: &[u8],
+    panel_name: &[u8],
+    base: Option<Date>,
+) -> Ending {
+    let mut door_lent = [0u8; ROOM];
+    let mut panel_lent = [0u8; ROOM];
+    let door_read = read_record(rt, door_name, &mut door_lent);
+    let panel_read = read_record(rt, panel_name, &mut panel_lent);
+    match (door_read, panel_read) {
+        (Ok(door), Ok(panel)) => compare_sound(rt, door, panel, base),
+        (Err(Ending::Failed), _) | (_, Err(Ending::Failed)) => Ending::Failed,
+        (Err(_), _) | (_, Err(_)) => Ending::No,
+    }
 }

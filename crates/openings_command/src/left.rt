@@ -1,55 +1,52 @@
 // The entries of a record that are left when it is held against the other, a line each.
-use calendar::Base;
-use console::output::{Stream, put, put_number};
-use opening_rows::{ROW_BYTES, opening_row};
+use calendar::Date;
+use console::output::{Stream, Unwritten};
+use opening_rows::opening_row;
+use openings::LeftEntry;
 use openings::left::left_from;
-use openings::{LeftEntry, Opening};
 
 // So many are shown; of the others it is said how many there are.
 const SHOWN: usize = 20;
 
-fn say_entry(out: Stream, number: usize, opening: Opening, base: Base) -> Stream {
-    let mut row = [0u8; ROW_BYTES];
-    let n = opening_row(base, number, opening, &mut row);
-    put(out, &row[..n])
+fn say_entry(out: Stream, entry: LeftEntry, base: Option<Date>) -> Result<(), Unwritten> {
+    out.put(opening_row(base, entry.number, entry.opening).as_slice())
 }
 
 // The first that are left, in the record's order. An entry's number counts from 1, and so is the place behind it.
-fn say_first(out: Stream, record: &[u8], other: &[u8], base: Base) -> Stream {
-    let mut told = out;
+fn say_first(
+    out: Stream,
+    record: &[u8],
+    other: &[u8],
+    base: Option<Date>,
+) -> Result<(), Unwritten> {
     let mut from: usize = 0;
-    let mut shown: usize = 0;
-    while shown < SHOWN {
-        let left = left_from(record, other, from);
-        let LeftEntry::At { number, opening } = left else {
-            return told;
+    for _ in 0..SHOWN {
+        let Some(entry) = left_from(record, other, from) else {
+            break;
         };
-        told = say_entry(told, number, opening, base);
-        from = number;
-        shown += 1;
+        say_entry(out, entry, base)?;
+        from = entry.number;
     }
-    told
-}
-
-fn say_more(out: Stream, left: usize) -> Stream {
-    if left <= SHOWN {
-        return out;
-    }
-    put(put_number(put(out, b"  and "), left - SHOWN), b" more\n")
+    Ok(())
 }
 
 // A head and the entries that are left in one of the records, where any are.
 pub fn say_left(
     out: Stream,
-    side: &[u8],
+    side: &str,
     left: usize,
     record: &[u8],
     other: &[u8],
-    base: Base,
-) -> Stream {
+    base: Option<Date>,
+) -> Result<(), Unwritten> {
     if left == 0 {
-        return out;
+        return Ok(());
     }
-    let head = put(put(put(out, b"left in the "), side), b" record:\n");
-    say_more(say_first(head, record, other, base), left)
+    write!(out, "left in the {side} record:\n")?;
+    say_first(out, record, other, base)?;
+    if SHOWN < left {
+        let more = left - SHOWN;
+        write!(out, "  and {more} more\n")?;
+    }
+    Ok(())
 }

@@ -6,7 +6,7 @@ mod defects;
 mod left;
 mod records;
 
-use base_day::{GivenBase, base_at};
+use base_day::base_at;
 use compared::compare_records;
 use console::arguments::{are, name_at};
 use console::status::Ending;
@@ -16,19 +16,16 @@ pub fn openings(rt: HostRuntime) -> Ending {
     if !are(rt, b"openings", 3, 4) {
         return Ending::Failed;
     }
-    let mut door = [0u8; 4096];
-    let door_length = name_at(rt, b"DOOR-RECORD", 2, &mut door);
-    if door_length == 0 {
-        return Ending::Failed;
-    }
-    let mut panel = [0u8; 4096];
-    let panel_length = name_at(rt, b"PANEL-RECORD", 3, &mut panel);
-    if panel_length == 0 {
-        return Ending::Failed;
-    }
-    let given = base_at(rt, 4);
-    let GivenBase::Is(base) = given else {
+    let mut door_lent = [0u8; 4096];
+    let Some(door) = name_at(rt, b"DOOR-RECORD", 2, &mut door_lent) else {
         return Ending::Failed;
     };
-    compare_records(rt, &door[..door_length], &panel[..panel_length], base)
+    let mut panel_lent = [0u8; 4096];
+    let Some(panel) = name_at(rt, b"PANEL-RECORD", 3, &mut panel_lent) else {
+        return Ending::Failed;
+    };
+    let Ok(base) = base_at(rt, 4) else {
+        return Ending::Failed;
+    };
+    compare_records(rt, door, panel, base)
 }

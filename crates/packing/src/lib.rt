@@ -10,9 +10,8 @@ ghost use Rattle.packing.specs.Pack.{word, pack_refusal, pack, pack_pair, pack_l
 ghost use Rattle.packing.specs.Decision.{PacksOut};
 
 use model::faults::{fault_number, fault_value};
-use model::kinds::kind_number;
-use model::{Counted, Decision, Fault, Grant, Listed, Matched, Outcome, Written};
-use openings::Compared;
+use model::{Cells, Decision, Fault, Grant};
+use openings::Comparison;
 
 // How many values the bits of each part hold.
 const NUMBER_VALUES: u64 = 256;
@@ -25,6 +24,7 @@ pub const B_VALUES: u64 = 4294967296;
 const LEFT_VALUES: u64 = 65536;
 
 // Bits 0 to 7 the number, 8 to 31 `a`, 32 to 63 `b`.
+#[tactic(auto, unfolding(crate::specs::Pack::word))]
 pub fn word(number: u64, a: u64, b: u64) -> u64
     ensures { result ≡ word number a b }
 {
@@ -35,80 +35,77 @@ fn pack_fault(fault: Fault) -> u64
     ensures { result ≡ pack_refusal (fault_number fault) (fault_values fault) }
 {
     let number = fault_number(fault) as u64;
-    let value = fault_value(fault) as u64;
-    let list_too_short = fault_number(Fault::ListTooShort { needed: 0 }) as u64;
-    if number == list_too_short {
-        return word(number, value, 0);
+    let value = fault_value(fault).unwrap_or(0) as u64;
+    match fault {
+        Fault::ListTooShort { .. } => word(number, value, 0),
+        _ => word(number, 0, value),
     }
-    word(number, 0, value)
 }
 
-pub fn pack_outcome(outcome: Outcome) -> u64
+// A function for each kind of answer: each lays other values in the word, by a definition of its own.
+pub fn pack_outcome(outcome: Result<(), Fault>) -> u64
     ensures { result ≡ pack (outcome_answer outcome) }
 {
     match outcome {
-        Outcome::Done => word(0, 0, 0),
-        Outcome::Refused(fault) => pack_fault(fault),
+        Ok(()) => word(0, 0, 0),
+        Err(fault) => pack_fault(fault),
     }
 }
 
-pub fn pack_listed(listed: Listed) -> u64
+pub fn pack_listed(listed: Result<usize, Fault>) -> u64
     ensures { result ≡ pack (listed_answer listed) }
 {
     match listed {
-        Listed::Count(count) => word(0, count as u64, 0),
-        Listed::Refused(fault) => pack_fault(fault),
+        Ok(count) => word(0, count as u64, 0),
+        Err(fault) => pack_fault(fault),
     }
 }
 
-pub fn pack_counted(counted: Counted) -> u64
+pub fn pack_counted(counted: Result<Cells, Fault>) -> u64
     ensures { result ≡ pack_pair (counted_answer counted) }
 {
     match counted {
-        Counted::Cells { live, free } => word(0, live as u64, free as u64),
-        Counted::Refused(fault) => pack_fault(fault),
+        Ok(cells) => word(0, cells.live as u64, cells.free as u64),
+        Err(fault) => pack_fault(fault),
     }
 }
 
-pub fn pack_written(written: Written) -> u64
+pub fn pack_written(written: Result<usize, Fault>) -> u64
     ensures { result ≡ pack_length (written_answer written) }
 {
     match written {
-        Written::Length(length) => word(0, 0, length as u64),
-        Written::Refused(fault) => pack_fault(fault),
+        Ok(length) => word(0, 0, length as u64),
+        Err(fault) => pack_fault(fault),
     }
 }
 
-pub fn pack_matched(matched: Matched) -> u64
+pub fn pack_matched(matched: Result<Option<u16>, Fault>) -> u64
     ensures { result ≡ pack (matched_answer matched) }
 {
     match matched {
-        Matched::Equal => word(0, 0, 0),
-        Matched::Differs(number) => word(0, number as u64, 0),
-        Matched::Refused(fault) => pack_fault(fault),
+        Ok(None) => word(0, 0, 0),
+        Ok(Some(number)) => word(0, u64::from(number), 0),
+        Err(fault) => pack_fault(fault),
     }
 }
 
 // Two numbers in one: the first in the high half.
+#[tactic(auto, unfolding(crate::specs::Pack::halves))]
 fn halves(x: u64, y: u64) -> u64
     ensures { result ≡ halves x y }
 {
     65536 * (x % LEFT_VALUES) + y % LEFT_VALUES
 }
 
-pub fn pack_compared(compared: Compared) -> u64
+pub fn pack_compared(compared: Result<Comparison, Fault>) -> u64
     ensures { result ≡ pack_three (compared_answer compared) }
 {
     match compared {
-        Compared::Entries {
-            agreeing,
-            left_in_door,
-            left_in_panel,
-        } => {
-            let left = halves(left_in_door as u64, left_in_panel as u64);
-            word(0, agreeing as u64, left)
+        Ok(entries) => {
+            let left = halves(entries.left_in_door as u64, entries.left_in_panel as u64);
+            word(0, entries.agreeing as u64, left)
         }
-        Compared::Refused(fault) => pack_fault(fault),
+        Err(fault) => pack_fault(fault),
     }
 }
 
@@ -117,11 +114,11 @@ fn words_of(g: Grant) -> [u16; 10]
     ensures { result ≡ grant_values g ++ (0 ∷ []) }
 {
     let b = g.bounds;
-    let kind = g.kind;
+    let kind = u8::from(g.kind);
     [
         g.number,
-        g.rank as u16,
-        kind_number(kind) as u16,
+        u16::from(g.rank),
+        u16::from(kind),
         b.staff_from,
         b.staff_to,
         b.door_from,
@@ -133,19 +130,19 @@ fn words_of(g: Grant) -> [u16; 10]
 }
 
 // Opens and barred leave the whole grant in `out`; none and a refusal leave it as it was.
-pub fn pack_decision(decision: Decision, out: &mut [u16; 10]) -> u64
+pub fn pack_decision(decision: Result<Decision, Fault>, out: &mut [u16; 10]) -> u64
     ensures { PacksOut result out.new out.old (decision_answer decision) }
 {
     match decision {
-        Decision::None => word(0, 0, 0),
-        Decision::Opens(g) => {
+        Ok(Decision::None) => word(0, 0, 0),
+        Ok(Decision::Opens(g)) => {
             *out = words_of(g);
             word(0, 1, 0)
         }
-        Decision::Barred(g) => {
+        Ok(Decision::Barred(g)) => {
             *out = words_of(g);
             word(0, 2, 0)
         }
-        Decision::Refused(fault) => pack_fault(fault),
+        Err(fault) => pack_fault(fault),
     }
 }

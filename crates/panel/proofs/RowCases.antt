@@ -6,20 +6,20 @@ use Prim.Native.Nat.{ℕ}
 use Prim.Native.String.{String}
 use mathlib.Core.Path.{◌≡◌, refl}
 use mathlib.Core.List.{List, []}
+use Rattle.std.proofs.Common.{Option, None, Some}
 use Rattle.model.specs.declared.Kind.TheVariants.{Opens}
 use Rattle.model.specs.declared.Grant.{Grant}
 use Rattle.text.specs.Ascii.{ascii}
 use Rattle.text.specs.Numeral.{numeral, digits_by}
-use Rattle.precedence.specs.declared.Precedence.TheVariants.{Whole, Partial, None}
+use Rattle.precedence.specs.declared.Precedence.TheVariants as precedence
 use Rattle.calendar.specs.Calendar.{leap_year, month_days, next_day, date_after}
-use Rattle.calendar.specs.declared.Base.{Base}
-use Rattle.calendar.specs.declared.Base.TheVariants.{Unknown, Day}
+use Rattle.calendar.specs.declared.Date.{Date}
 use Rattle.calendar.specs.Note.{shown_base, moment_note}
 use Rattle.text.specs.Columns.{aligned, columns}
 use Rattle.panel.specs.Rows.{grant_row, touching_row, times_row}
 
-abbrev on : ℕ → Base
-on y = Day (record { year = y; month = 3; day = 1 })
+abbrev on : ℕ → Option Date
+on y = Some (record { year = y; month = 3; day = 1 })
 
 -- until a quarter
 abbrev seven : ℕ → Grant
@@ -43,15 +43,15 @@ abbrev Reads : List ℕ → String → Type 0
 Reads t s = t ≡ ascii s
 
 pub row_cases : Reads (grant_row (seven 64)) "       7      10     100     199      12      12      32      64  opens\n"
-    × Reads (touching_row (seven 64) Whole (on 2027)) "       7      10     100     199      64  2027-03-01 16:00  opens\n"
-    × Reads (touching_row (seven 65535) Partial (on 2027)) "       7      10     100     199   65535  2029-01-11 15:45  opens, in part\n"
-    × Reads (touching_row (seven 64) None Unknown) "       7      10     100     199      64  -                 opens, OVERRIDDEN\n"
+    × Reads (touching_row (seven 64) precedence.Whole (on 2027)) "       7      10     100     199      64  2027-03-01 16:00  opens\n"
+    × Reads (touching_row (seven 65535) precedence.Partial (on 2027)) "       7      10     100     199   65535  2029-01-11 15:45  opens, in part\n"
+    × Reads (touching_row (seven 64) precedence.None None) "       7      10     100     199      64  -                 opens, OVERRIDDEN\n"
 unfolding shown_base aligned columns numeral digits_by date_after next_day month_days leap_year
 row_cases = (refl, refl, refl, refl)
 
 pub moment_cases : Reads (times_row (seven 96) (on 2027)) "from 2027-03-01 08:00 until 2027-03-02 00:00\n"
     × Reads (moment_note (on 2027) 63) " (2027-03-01 15:45)"
-    × (times_row (seven 96) Unknown ≡ [])
+    × (times_row (seven 96) None ≡ [])
     × (moment_note (on 10000) 63 ≡ [])
 unfolding shown_base date_after next_day month_days leap_year
 moment_cases = (refl, refl, refl, refl)

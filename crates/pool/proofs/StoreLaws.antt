@@ -1,22 +1,21 @@
--- The words of a cell, stored one after the other.
---   store_again, store_done    a turn of the loop over a cell's words, and its end
+-- The words of a cell, stored as a part of the pool.
+--   cell_stored    a part of as many words, which stands at the cell's place
 -- Assumes nothing.
-use Prim.Native.Nat.{ℕ, ◌+◌, ◌<◌, ◌≤◌}
-use mathlib.Core.Path.{◌≡◌, ap, ◌∙◌}
-use mathlib.Core.List.{List}
+use Prim.Native.Nat.{ℕ, ◌+◌, ◌≤◌}
+use mathlib.Core.Path.{◌≡◌, sym, ◌∙◌}
+use mathlib.Core.List.{List, ◌++◌, append_assoc}
 use native.Mathlib.Omega.{arith}
-use lib.ListN.{length, get_or, take, set}
-use lib.Seq.{sets}
-use Rattle.lists.proofs.StoreLaws.{sets_turn, sets_end}
+use borrow.Rule.Slice.PartMut.{put_mid}
+use lib.ListN.{length, take, drop}
+use lib.Seq.{sets, sets-eq, drop-drop}
 use Rattle.pool.specs.declared.Field.TheVariants.{Left}
 use Rattle.pool.specs.Layout.{cell_words, place}
 use Rattle.pool.specs.Cell.{with_cell}
 
-pub store_again : (l stored : List ℕ) (at i : ℕ) (ws : List ℕ) → length ws ≡ cell_words → i < cell_words → stored ≡ sets l at (take i ws)
-    → set stored (at + i) (get_or ws i 0) ≡ sets l at (take (i + 1) ws)
-store_again l stored at i ws n h e = sets_turn l stored at i ws (omega arith) e
-
-pub store_done : (l stored : List ℕ) (k at i : ℕ) (ws : List ℕ) → length ws ≡ cell_words → cell_words ≤ i → at ≡ place k Left → stored ≡ sets l at (take i ws)
-    → stored ≡ with_cell l k ws
+pub cell_stored : (w ws : List ℕ) (k at n : ℕ) → at ≡ place k Left → length ws ≡ cell_words → n ≡ cell_words → at + cell_words ≤ length w
+    → put_mid at n w ws ≡ with_cell w k ws
 unfolding with_cell
-store_done l stored k at i ws n h p e = sets_end l stored at i ws (omega arith) e ∙ ap (λ (a : ℕ). sets l a ws) p
+cell_stored w ws k at n e ten m long =
+    let whole : sets w at ws ≡ take at w ++ ws ++ drop (at + length ws) w = sets-eq ws w at (omega arith) in
+    let same : n ≡ length ws = omega arith in
+    rw (same, ← e, drop-drop) (sym (whole ∙ append_assoc (take at w) ws (drop (at + length ws) w)))

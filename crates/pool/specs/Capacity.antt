@@ -6,9 +6,9 @@
 --   capacity_of w      C, from the length of w
 --   wrong_length w     fault 1: the pool's length is not as above
 --   wrong_pool w       fault 1, except in start and load: that, or the first word is not its C
---   length_capacity w, pool_capacity w   C, or 0 where the pool is refused: what the program goes by
+--   length_capacity w, pool_capacity w   C, or None where the pool is refused: what the program goes by
 -- Assumes nothing: these are definitions.
-use Rattle.std.specs.Prelude.{ℕ, ◌+◌, ◌-◌, ◌*◌, ◌/◌, ◌<◌, ◌≤◌, ◌≡◌, Bool, not, cond, ◌&&◌, ◌||◌, List, leb, eqb, length, get_or}
+use Rattle.std.specs.Prelude.{ℕ, ◌+◌, ◌-◌, ◌*◌, ◌/◌, ◌<◌, ◌≤◌, ◌≡◌, Bool, not, cond, ◌&&◌, ◌||◌, List, Option, None, Some, leb, eqb, length, get_or}
 use Rattle.model.specs.Limits.{max_grants}
 use Rattle.pool.specs.Layout.{capacity_place, header_words, cell_words}
 
@@ -34,8 +34,8 @@ wrong_length w = let c = capacity_of w in not (leb 1 c && leb c max_grants && eq
 unfoldable pub wrong_pool : List ℕ → Bool
 wrong_pool w = wrong_length w || not (eqb (get_or w capacity_place 0) (capacity_of w))
 
-abbrev pub length_capacity : List ℕ → ℕ
-length_capacity w = cond (wrong_length w) 0 (capacity_of w)
+abbrev pub length_capacity : List ℕ → Option ℕ
+length_capacity w = cond (wrong_length w) None (Some (capacity_of w))
 
-abbrev pub pool_capacity : List ℕ → ℕ
-pool_capacity w = cond (wrong_pool w) 0 (capacity_of w)
+abbrev pub pool_capacity : List ℕ → Option ℕ
+pool_capacity w = cond (wrong_pool w) None (Some (capacity_of w))

@@ -7,8 +7,7 @@ ghost use Rattle.pool.specs.Fresh.{free_cell};
 
 use crate::Field;
 use crate::layout::{CELL_WORDS, field, place_of};
-use model::kinds::{kind_number, kind_of};
-use model::{Box, Grant};
+use model::{Box, Grant, Kind};
 
 // The box of the grant in a cell.
 pub fn bounds_at(pool: &[u16], cell: usize) -> Box
@@ -34,7 +33,7 @@ pub fn grant_at(pool: &[u16], cell: usize) -> Grant
     Grant {
         number: field(pool, cell, Field::Number),
         rank: (rank_kind / 2 % 256) as u8,
-        kind: kind_of((rank_kind % 2) as u8),
+        kind: Kind::of((rank_kind % 2) as u8),
         bounds: bounds_at(pool, cell),
     }
 }
@@ -45,11 +44,7 @@ fn store_cell(pool: &mut [u16], cell: usize, words: [u16; CELL_WORDS])
     ensures { pool.new ≡ with_cell pool.old cell words }
 {
     let at = place_of(cell, Field::Left);
-    let mut i: usize = 0;
-    while i < CELL_WORDS {
-        pool[at + i] = words[i];
-        i += 1;
-    }
+    pool[at..at + CELL_WORDS].copy_from_slice(&words);
 }
 
 // Stores a grant as a node without children below its parent.
@@ -58,8 +53,7 @@ pub fn store_grant(pool: &mut [u16], cell: usize, g: Grant, parent: u16)
     ensures { pool.new ≡ with_cell pool.old cell (cell_of 0 0 g parent) }
 {
     let b = g.bounds;
-    let kind = g.kind;
-    let rank_kind = g.rank as u16 * 2 + kind_number(kind) as u16;
+    let rank_kind = u16::from(g.rank) * 2 + u16::from(u8::from(g.kind));
     let words = [
         0,
         0,

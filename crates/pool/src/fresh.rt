@@ -14,11 +14,9 @@ fn free_all(pool: &mut [u16], cells: usize)
         × (take header_words pool.new ≡ take header_words pool.old) }
 {
     let mut next: u16 = 0;
-    let mut k = cells;
-    while 0 < k {
+    for k in (1..=cells).rev() {
         store_free(pool, k, next);
         next = k as u16;
-        k -= 1;
     }
 }
 

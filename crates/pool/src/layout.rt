@@ -1,4 +1,5 @@
-// Where each word of a pool lies: the one file of code that names a place (specs/Layout and Capacity say the same).
+// Where each word of a pool lies (specs/Layout and Capacity say the same): the one file of code that names a place, but for a field's in its cell,
+// which is the field's number.
 ghost use Rattle.std.specs.Prelude.{◌≡◌, ◌+◌, ◌<◌, ◌≤◌, set};
 ghost use Rattle.model.specs.Limits.{max_grants};
 ghost use Rattle.pool.specs.Layout.{place, offset, cell_words, field_of};
@@ -22,29 +23,11 @@ pub const MAX_CAPACITY: usize = MAX_GRANTS;
 // The words of a pool of so many cells.
 pub const MAX_WORDS: usize = HEADER_WORDS + CELL_WORDS * MAX_CAPACITY;
 
-pub fn wide(x: u16) -> usize
-    ensures { (result ≡ x) × (result < 65536) }
-{
-    x as usize
-}
-
 // A field's place among the words of its cell.
 fn offset_of(f: Field) -> usize
     ensures { (result ≡ offset f) × (result < cell_words) }
 {
-    match f {
-        Field::Left => 0,
-        Field::Right => 1,
-        Field::Number => 2,
-        Field::RankKind => 3,
-        Field::StaffFrom => 4,
-        Field::StaffTo => 5,
-        Field::DoorFrom => 6,
-        Field::DoorTo => 7,
-        Field::QuarterFrom => 8,
-        Field::QuarterTo => 9,
-        Field::Parent => 10,
-    }
+    f as usize
 }
 
 // The place of a field of a cell; cells are numbered from 1.
@@ -72,34 +55,31 @@ pub fn set_field(pool: &mut [u16], cell: usize, f: Field, value: u16)
     pool[at] = value;
 }
 
-// Document 01's C, from the pool's length alone; 0 where no pool has that length.
-pub fn length_capacity(pool: &[u16]) -> usize
+// Document 01's C, from the pool's length alone; None where no pool has that length.
+pub fn length_capacity(pool: &[u16]) -> Option<usize>
     ensures { result ≡ length_capacity pool.now }
 {
     let n = pool.len();
     if n < HEADER_WORDS + CELL_WORDS {
-        return 0;
+        return None;
     }
     let cells = (n - HEADER_WORDS) / CELL_WORDS;
     if MAX_CAPACITY < cells {
-        return 0;
+        return None;
     }
     if n != HEADER_WORDS + CELL_WORDS * cells {
-        return 0;
+        return None;
     }
-    cells
+    Some(cells)
 }
 
-// Document 01's C; 0 where the length is not a pool's or the first word is not its C.
-pub fn capacity(pool: &[u16]) -> usize
+// Document 01's C; None where the length is not a pool's or the first word is not its C.
+pub fn capacity(pool: &[u16]) -> Option<usize>
     ensures { result ≡ pool_capacity pool.now }
 {
-    let cells = length_capacity(pool);
-    if cells == 0 {
-        return 0;
+    let cells = length_capacity(pool)?;
+    if usize::from(pool[CAPACITY]) != cells {
+        return None;
     }
-    if wide(pool[CAPACITY]) != cells {
-        return 0;
-    }
-    cells
+    Some(cells)
 }

@@ -6,18 +6,18 @@ pub mod cell;
 pub mod fresh;
 pub mod layout;
 
-// The words of a cell, in their order.
+// The words of a cell, each with its place among them.
 #[derive(Clone, Copy)]
 pub enum Field {
-    Left,
-    Right,
-    Number,
-    RankKind,
-    StaffFrom,
-    StaffTo,
-    DoorFrom,
-    DoorTo,
-    QuarterFrom,
-    QuarterTo,
-    Parent,
+    Left = 0,
+    Right = 1,
+    Number = 2,
+    RankKind = 3,
+    StaffFrom = 4,
+    StaffTo = 5,
+    DoorFrom = 6,
+    DoorTo = 7,
+    QuarterFrom = 8,
+    QuarterTo = 9,
+    Parent = 10,
 }

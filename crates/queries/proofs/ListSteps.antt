@@ -8,11 +8,12 @@ use mathlib.Core.Bool.{Bool, true, false}
 use mathlib.Core.List.{List, [], ◌∷◌, ◌++◌}
 use native.Mathlib.Omega.{arith}
 use lib.ListN.{length, take, drop}
-use lib.Seq.{length-take-le}
 use borrow.Author.Tests.{lt-ltb, le-ltb}
 use Rattle.lists.specs.Sort.{sort_by}
 use Rattle.lists.specs.Overwrite.{overwrite}
 use Rattle.lists.proofs.SortLaws.{length-sort_by}
+use Rattle.std.proofs.Common.{Option, None, Some, Result, Ok, Err}
+use Rattle.adt.specs.declared.Broken.{Broken}
 use Rattle.model.specs.declared.Box.{Box}
 use Rattle.model.specs.declared.Choice.{Choice}
 use Rattle.model.specs.declared.Fault.TheVariants.{BadPool, Reversed, BrokenLinks, ListTooShort}
@@ -23,8 +24,6 @@ use Rattle.model.specs.Relation.{taken}
 use Rattle.geometry.specs.SearchRange.{range_of_box}
 use Rattle.pool.specs.Capacity.{wrong_pool, pool_capacity}
 use Rattle.adt.specs.Search.{Search}
-use Rattle.steps.specs.declared.hits.Hits.{Hits}
-use Rattle.steps.specs.declared.hits.Hits.TheVariants.{Broken, Found}
 use Rattle.calls.specs.Walks.{box_search, hits_of, is_broken}
 use Rattle.steps.specs.Hits.{numbers_at, HitsAt, TakenFound}
 use Rattle.calls.specs.Order.{list_order}
@@ -75,23 +74,23 @@ module _ (w : List ℕ) (q : Box) (choice : Choice) (lent : List ℕ) where
             ∙ first_fails w lent listed _ _ (le-ltb _ _ room)
             ∙ none_left w lent listed
 
-  module _ {c : ℕ} (e : c ≡ pool_capacity w) where
-    pub list_bad : c ≡ 0 → Lends (refusal BadPool) lent (list_call w q choice lent)
+  module _ {o : Option ℕ} (e : o ≡ pool_capacity w) where
+    pub list_bad : o ≡ None → Lends (refusal BadPool) lent (list_call w q choice lent)
     unfolding list_call list_order
     list_bad z = lends_as (first_holds w lent listed _ _ (pool_refused w e z))
 
-    module _ (n : ¬ (c ≡ 0)) {reversed : Bool} (v : reversed ≡ reversed_box q) where
+    module _ {c : ℕ} (n : o ≡ Some c) {reversed : Bool} (v : reversed ≡ reversed_box q) where
       right : wrong_pool w ≡ false
       right = (pool_taken w e n).right
 
       pub list-reversed : reversed ≡ true → Lends (refusal Reversed) lent (list_call w q choice lent)
       list-reversed r = lends_as (reversed_step right (sym v ∙ r))
 
-      module _ (forward : reversed ≡ false) (h : List ℕ) {r : Hits} (f : TakenFound w q choice h r) where
-        pub list-broken : r ≡ Broken → Lends (refusal BrokenLinks) lent (list_call w q choice lent)
+      module _ (forward : reversed ≡ false) (h : List ℕ) {r : Result ℕ Broken} (f : TakenFound w q choice h r) where
+        pub list-broken : {d : Broken} → r ≡ Err d → Lends (refusal BrokenLinks) lent (list_call w q choice lent)
         list-broken b = lends_as (broken_step right (sym v ∙ forward) (ap is_broken (taken-broken w choice refl h f b)))
 
-        module _ {found : ℕ} (b : r ≡ Found found) where
+        module _ {found : ℕ} (b : r ≡ Ok found) where
           at : HitsAt w (range_of_box q) (taken choice q) h found
           at = taken-hits w choice refl h f b
 
@@ -101,11 +100,10 @@ module _ (w : List ℕ) (q : Box) (choice : Choice) (lent : List ℕ) where
           pub list_short : length lent < found → Lends (refusal (ListTooShort found)) lent (list_call w q choice lent)
           list_short short = rw (← long) (lends_as (short_step right (sym v ∙ forward) at.unbroken (omega (arith, long))))
 
-          pub list_done : found ≤ length lent → {part : List ℕ} → part ≡ sort_by (λ n. n) (numbers_at w (take (length (take found lent)) h))
+          pub list_done : found ≤ length lent → {part : List ℕ} → part ≡ sort_by (λ n. n) (numbers_at w (take found h))
               → Lends (accepted (found ∷ [])) (part ++ drop found lent) (list_call w q choice lent)
           list_done room {part} sorted =
-              let size : length (take found lent) ≡ found = length-take-le found lent room in
-              let numbers : part ≡ sort_by (λ n. n) (numbers_at w (hits_of s)) = sorted ∙ rw (size, at.found) in
+              let numbers : part ≡ sort_by (λ n. n) (numbers_at w (hits_of s)) = sorted ∙ rw at.found in
               let done = lends_as (done_step right (sym v ∙ forward) at.unbroken (omega (arith, long))) in
               let count : length part ≡ found = ap length numbers ∙ length-sort_by _ _ ∙ length-numbers_at w (hits_of s) ∙ long in
               record {

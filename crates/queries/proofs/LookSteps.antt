@@ -5,6 +5,7 @@ use Prim.Native.Nat.{ℕ}
 use mathlib.Core.Path.{◌≡◌, ◌∙◌}
 use mathlib.Core.Bool.{Bool, true, false}
 use mathlib.Core.List.{List, []}
+use Rattle.std.proofs.Common.{Option, None, Some}
 use Rattle.model.specs.declared.Fault.TheVariants.{BadPool, BrokenLinks}
 use Rattle.model.specs.Answer.{Answer, refusal}
 use Rattle.model.specs.Refusal.{Step, refusing}
@@ -13,15 +14,15 @@ use Rattle.calls.specs.Order.{look_order}
 use Rattle.calls.proofs.RefusalSteps.{first_holds, first_fails, none_left, leaves_as, pool_refused, pool_taken}
 
 -- a call that gives `done` where it is not refused, and whose search met a cause of 9 or not
-module _ (w : List ℕ) (broken : Bool) (done : Step (List ℕ)) {c : ℕ} (e : c ≡ pool_capacity w) where
+module _ (w : List ℕ) (broken : Bool) (done : Step (List ℕ)) {o : Option ℕ} (e : o ≡ pool_capacity w) where
   abbrev answer : Answer
   answer = (refusing (look_order w broken) w [] done).answer
 
-  pub look_bad : c ≡ 0 → refusal BadPool ≡ answer
+  pub look_bad : o ≡ None → refusal BadPool ≡ answer
   unfolding look_order
   look_bad z = (leaves_as (first_holds w [] done _ _ (pool_refused w e z))).answered
 
-  module _ (n : ¬ (c ≡ 0)) where
+  module _ {c : ℕ} (n : o ≡ Some c) where
     pub look_broken : broken ≡ true → refusal BrokenLinks ≡ answer
     unfolding look_order
     look_broken met = (leaves_as (first_fails w [] done _ _ (pool_taken w e n).right ∙ first_holds w [] done _ _ met)).answered

@@ -1,15 +1,13 @@
 -- Copying the numbers of the grants in the cells of hits.
 --   length-numbers_at    as many numbers as cells
 --   numbers_more        one number more is copied
---   numbers_all         all are copied
 -- Assumes nothing.
 use Prim.Native.Nat.{ℕ, ◌+◌, ◌<◌}
-use mathlib.Core.Path.{◌≡◌, sym, ap, ◌∙◌}
+use mathlib.Core.Path.{◌≡◌, ap, ◌∙◌}
 use mathlib.Core.List.{List, [], ◌∷◌, ◌++◌, map-append}
 use native.Mathlib.Numerals.{add-one}
-use native.Mathlib.Omega.{arith}
 use lib.ListN.{length, take, get_or, set, length-map}
-use lib.Seq.{take-suc, take-suc-set, take_all}
+use lib.Seq.{take-suc, take-suc-set}
 use Rattle.pool.specs.declared.Field.TheVariants.{Number}
 use Rattle.pool.specs.Layout.{field_of}
 use Rattle.pool.specs.Cell.{grant_at}
@@ -25,6 +23,3 @@ module _ (w hits : List ℕ) where
   numbers_more l i p q {k} {v} at e before =
       rw (add-one i, take-suc-set l i v p, take-suc hits i 0 q, e, at)
       (ap (λ (xs : List ℕ). xs ++ field_of w (get_or hits i 0) Number ∷ []) before ∙ simp map-append)
-
-  pub numbers_all : (l : List ℕ) (i n : ℕ) → length l ≡ n → i ≡ n → take i l ≡ numbers_at w (take i hits) → l ≡ numbers_at w (take n hits)
-  numbers_all l i n long end before = sym (take_all i l (omega arith)) ∙ before ∙ rw end

@@ -5,25 +5,19 @@ ghost use Rattle.calls.specs.Calls.{count_call};
 
 use adt::predicates::Predicate;
 use geometry::region::root_region;
-use model::{Counted, Fault};
+use model::{Cells, Fault};
 use pool::layout::{MAX_CAPACITY, capacity};
-use steps::hits::{Hits, find_hits};
+use steps::hits::find_hits;
 
-pub fn count(pool: &[u16]) -> Counted
+pub fn count(pool: &[u16]) -> Result<Cells, Fault>
     ensures { counted_answer result ≡ (count_call pool.now).answer }
 {
-    let cells = capacity(pool);
-    if cells == 0 {
-        return Counted::Refused(Fault::BadPool);
-    }
+    let cells = capacity(pool).ok_or(Fault::BadPool)?;
     let everything = root_region();
     let mut hits = [0u16; MAX_CAPACITY];
-    let Hits::Found(live) = find_hits(pool, cells, &everything, Predicate::InRange, &mut hits)
-    else {
-        return Counted::Refused(Fault::BrokenLinks);
-    };
-    Counted::Cells {
-        live: live,
+    let live = find_hits(pool, cells, &everything, Predicate::InRange, &mut hits)?;
+    Ok(Cells {
+        live,
         free: cells - live,
-    }
+    })
 }

@@ -7,6 +7,7 @@
 --   quarter_moment           where a text has a quarter, rounded down, it holds that quarter's moment
 -- Assumes nothing.
 use Prim.Native.Nat.{ℕ, zero, suc, ◌+◌, ◌*◌, ◌/◌, ◌<◌, ◌≤◌}
+use Rattle.std.proofs.Common.{Option, None, Some}
 use mathlib.Core.Path.{◌≡◌, refl, sym}
 use mathlib.Core.Bool.{Bool, true, false, cond, ◌&&◌, and-eq-true_iff}
 use mathlib.Core.List.{List}
@@ -15,13 +16,8 @@ use borrow.Author.Tests.{leb-true, eqb-true}
 use lib.Dec.{leb, eqb}
 use Rattle.calendar.specs.declared.Date.{Date}
 use Rattle.calendar.specs.Calendar.{is_date, date_after, day_of, hour_of, minute_of}
-use Rattle.question.specs.declared.Number.{Number}
-use Rattle.question.specs.declared.Number.TheVariants as number
-use Rattle.question.specs.declared.Day.{Day}
-use Rattle.question.specs.declared.Day.TheVariants as day
 use Rattle.question.specs.declared.Rounding.{Rounding}
 use Rattle.question.specs.declared.Rounding.TheVariants as rounding
-use Rattle.question.specs.declared.Quarter.TheVariants as quarter
 use Rattle.question.specs.Number.{typed_number}
 use Rattle.question.specs.Day.{part, day_in}
 use Rattle.question.specs.Quarter.{moment_form, same_date, days_from, days_since, days_limit, last_quarter, minutes_added, quarter_at, time_of}
@@ -32,9 +28,9 @@ pub record MomentRead (r : Rounding) (base : Date) (q : ℕ) (bs : List ℕ) : T
   pub hour : ℕ
   pub minute : ℕ
   pub has-form : moment_form bs ≡ true
-  pub is_day : day_in (part 0 10 bs) ≡ day.Is (date_after base days)
-  pub is_hour : typed_number (part 11 2 bs) ≡ number.Value hour
-  pub is_minute : typed_number (part 14 2 bs) ≡ number.Value minute
+  pub is_day : day_in (part 0 10 bs) ≡ Some (date_after base days)
+  pub is_hour : typed_number (part 11 2 bs) ≡ Some hour
+  pub is_minute : typed_number (part 14 2 bs) ≡ Some minute
   pub in_day : hour ≤ 23
   pub in_hour : minute ≤ 59
   pub rounded : q ≡ 96 * days + 4 * hour + (minute + minutes_added r) / 15
@@ -42,9 +38,9 @@ pub record MomentRead (r : Rounding) (base : Date) (q : ℕ) (bs : List ℕ) : T
 pub record IsMoment (base : Date) (q : ℕ) (bs : List ℕ) : Type 0 where
   pub minute : ℕ
   pub has-form : moment_form bs ≡ true
-  pub is_day : day_in (part 0 10 bs) ≡ day.Is (date_after base (day_of q))
-  pub is_hour : typed_number (part 11 2 bs) ≡ number.Value (hour_of q)
-  pub is_minute : typed_number (part 14 2 bs) ≡ number.Value minute
+  pub is_day : day_in (part 0 10 bs) ≡ Some (date_after base (day_of q))
+  pub is_hour : typed_number (part 11 2 bs) ≡ Some (hour_of q)
+  pub is_minute : typed_number (part 14 2 bs) ≡ Some minute
   pub in_hour : minute ≤ 59
   pub rounded_down : minute_of q ≡ minute / 15 * 15
 
@@ -77,17 +73,17 @@ found (suc left) n k base to e h = by_test (same_date (date_after base n) to) re
 pub days_since-found : (base to : Date) (n : ℕ) → days_since base to ≡ n → n < days_limit → date_after base n ≡ to
 days_since-found base to n e h = found days_limit 0 n base to e (omega arith)
 
-no_quarter : {q : ℕ} → quarter.Bad ≡ quarter.Is q → ⊥
+no_quarter : {q : ℕ} → None ≡ Some q → ⊥
 no_quarter e = let z : ◌≡◌ {A = ℕ} 0 1 = cc in omega arith
 
 abbrev rounded : Rounding → ℕ → ℕ → ℕ → ℕ
 rounded r n h m = 96 * n + 4 * h + (m + minutes_added r) / 15
 
-quarter_at-value : (r : Rounding) (n h m q : ℕ) → quarter_at r n h m ≡ quarter.Is q → (q ≡ rounded r n h m) × (q ≤ last_quarter)
+quarter_at-value : (r : Rounding) (n h m q : ℕ) → quarter_at r n h m ≡ Some q → (q ≡ rounded r n h m) × (q ≤ last_quarter)
 unfolding quarter_at
 quarter_at-value r n h m q e = by_test (leb (rounded r n h m) last_quarter) refl e
   where
-    by_test : (t : Bool) → leb (rounded r n h m) last_quarter ≡ t → cond t (quarter.Is (rounded r n h m)) quarter.Bad ≡ quarter.Is q
+    by_test : (t : Bool) → leb (rounded r n h m) last_quarter ≡ t → cond t (Some (rounded r n h m)) None ≡ Some q
         → (q ≡ rounded r n h m) × (q ≤ last_quarter)
     by_test true s p = let v : rounded r n h m ≡ q = cc in (sym v, omega (arith, leb-true (rounded r n h m) last_quarter s))
     by_test false s p = absurd (no_quarter p)
@@ -99,11 +95,11 @@ record Timed (r : Rounding) (base to : Date) (h m q : ℕ) : Type 0 where
   in_hour : m ≤ 59
   is_rounded : q ≡ rounded r (days_since base to) h m
 
-timed : (r : Rounding) (base to : Date) (h m q : ℕ) → time_of r base to h m ≡ quarter.Is q → Timed r base to h m q
+timed : (r : Rounding) (base to : Date) (h m q : ℕ) → time_of r base to h m ≡ Some q → Timed r base to h m q
 unfolding time_of
 timed r base to h m q e = by_test (leb h 23 && leb m 59) refl e
   where
-    by_test : (t : Bool) → (leb h 23 && leb m 59) ≡ t → cond t (quarter_at r (days_since base to) h m) quarter.Bad ≡ quarter.Is q → Timed r base to h m q
+    by_test : (t : Bool) → (leb h 23 && leb m 59) ≡ t → cond t (quarter_at r (days_since base to) h m) None ≡ Some q → Timed r base to h m q
     by_test false s p = absurd (no_quarter p)
     by_test true s p =
         let both = (and-eq-true_iff (leb h 23) (leb m 59)).0 s in
@@ -115,20 +111,20 @@ timed r base to h m q e = by_test (leb h 23 && leb m 59) refl e
           is_rounded = v.0;
         }
 
-pub quarter-read-from : (r : Rounding) (base : Date) (bs : List ℕ) (q : ℕ) → quarter_of r base bs ≡ quarter.Is q → MomentRead r base q bs
+pub quarter-read-from : (r : Rounding) (base : Date) (bs : List ℕ) (q : ℕ) → quarter_of r base bs ≡ Some q → MomentRead r base q bs
 unfolding quarter_of
 quarter-read-from r base bs q e =
     go (is_date base.year base.month base.day && moment_form bs) refl (day_in (part 0 10 bs)) refl (typed_number (part 11 2 bs)) refl
     (typed_number (part 14 2 bs)) refl e
   where
-    go : (t : Bool) → (is_date base.year base.month base.day && moment_form bs) ≡ t → (o : Day) → day_in (part 0 10 bs) ≡ o
-        → (h : Number) → typed_number (part 11 2 bs) ≡ h → (m : Number) → typed_number (part 14 2 bs) ≡ m
-        → cond t (quarter_by r base o h m) quarter.Bad ≡ quarter.Is q → MomentRead r base q bs
+    go : (t : Bool) → (is_date base.year base.month base.day && moment_form bs) ≡ t → (o : Option Date) → day_in (part 0 10 bs) ≡ o
+        → (h : Option ℕ) → typed_number (part 11 2 bs) ≡ h → (m : Option ℕ) → typed_number (part 14 2 bs) ≡ m
+        → cond t (quarter_by r base o h m) None ≡ Some q → MomentRead r base q bs
     go false s o x h y m z p = absurd (no_quarter p)
-    go true s day.Bad x h y m z p = absurd (no_quarter p)
-    go true s (day.Is d) x number.Bad y m z p = absurd (no_quarter p)
-    go true s (day.Is d) x (number.Value h) y number.Bad z p = absurd (no_quarter p)
-    go true s (day.Is d) x (number.Value h) y (number.Value m) z p =
+    go true s None x h y m z p = absurd (no_quarter p)
+    go true s (Some d) x None y m z p = absurd (no_quarter p)
+    go true s (Some d) x (Some h) y None z p = absurd (no_quarter p)
+    go true s (Some d) x (Some h) y (Some m) z p =
         let t = timed r base d h m q p in
         record {
           days = days_since base d;
@@ -154,7 +150,7 @@ module _ (n h m q : ℕ) (e : q ≡ 96 * n + 4 * h + m / 15) (hour : h ≤ 23) (
   is_minutes : minute_of q ≡ m / 15 * 15
   is_minutes = omega arith
 
-pub quarter_moment : (base : Date) (bs : List ℕ) (q : ℕ) → quarter_of rounding.Down base bs ≡ quarter.Is q → IsMoment base q bs
+pub quarter_moment : (base : Date) (bs : List ℕ) (q : ℕ) → quarter_of rounding.Down base bs ≡ Some q → IsMoment base q bs
 quarter_moment base bs q e =
     let t = quarter-read-from rounding.Down base bs q e in
     let n = t.days in

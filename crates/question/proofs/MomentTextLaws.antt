@@ -8,7 +8,7 @@ use Prim.Native.Nat.{ℕ, suc, ◌+◌, ◌/◌, ◌%◌, ◌<◌, ◌≤◌}
 use mathlib.Core.Path.{◌≡◌, refl, sym, ap, ◌∙◌}
 use mathlib.Core.Bool.{Bool, true, false, cond, ◌&&◌, and-eq-true_iff}
 use mathlib.Core.List.{List, [], ◌∷◌, ◌++◌}
-use mathlib.Core.Option.{none, some}
+use Rattle.std.proofs.Common.{Option, None, Some}
 use native.Mathlib.Omega.{arith}
 use borrow.Author.Tests.{leb-true, eqb-true}
 use lib.Dec.{leb, ltb, eqb}
@@ -21,10 +21,7 @@ use Rattle.text.specs.Decimal.{zero_digit, nine_digit, is_digit, is_number, valu
 use Rattle.calendar.specs.declared.Date.{Date}
 use Rattle.calendar.specs.Calendar.{is_date, date_after, day_of, hour_of, minute_of}
 use Rattle.calendar.specs.Moment.{two_digits, dash, colon, date_text, moment_text, date_bytes, moment_bytes}
-use Rattle.question.specs.declared.Number.{Number}
-use Rattle.question.specs.declared.Number.TheVariants as number
-use Rattle.question.specs.declared.Day.TheVariants as day
-use Rattle.question.specs.Number.{number_by, typed_number}
+use Rattle.question.specs.Number.{typed_number}
 use Rattle.question.specs.Day.{part, day_form, date_of, day_by, day_in}
 use Rattle.question.specs.Quarter.{moment_form}
 use Rattle.question.proofs.MomentLaws.{IsMoment}
@@ -32,21 +29,15 @@ use Rattle.question.proofs.MomentLaws.{IsMoment}
 not_false_true : false ≡ true → ⊥
 not_false_true e = let z : ◌≡◌ {A = ℕ} 0 1 = cc in omega arith
 
-no_number : {v : ℕ} → number.Bad ≡ number.Value v → ⊥
-no_number e = let z : ◌≡◌ {A = ℕ} 0 1 = cc in omega arith
-
-no_day : {d : Date} → day.Bad ≡ day.Is d → ⊥
-no_day e = let z : ◌≡◌ {A = ℕ} 0 1 = cc in omega arith
-
-number_digits : (bs : List ℕ) (v : ℕ) → typed_number bs ≡ number.Value v → (is_number bs ≡ true) × (value_after 0 bs ≡ v)
+number_digits : (bs : List ℕ) (v : ℕ) → typed_number bs ≡ Some v → (is_number bs ≡ true) × (value_after 0 bs ≡ v)
 unfolding typed_number decimal
 number_digits bs v e = by_tests (is_number bs) (ltb (value_after 0 bs) word_values) refl e
   where
-    by_tests : (s t : Bool) → is_number bs ≡ s → number_by (cond (s && t) (some (value_after 0 bs)) none) ≡ number.Value v
+    by_tests : (s t : Bool) → is_number bs ≡ s → cond (s && t) (Some (value_after 0 bs)) None ≡ Some v
         → (is_number bs ≡ true) × (value_after 0 bs ≡ v)
     by_tests true true n p = (n, cc)
-    by_tests true false n p = absurd (no_number p)
-    by_tests false t n p = absurd (no_number p)
+    by_tests true false n p = absurd (grind arith)
+    by_tests false t n p = absurd (grind arith)
 
 digit-range : (b : ℕ) → is_digit b ≡ true → (zero_digit ≤ b) × (b ≤ nine_digit)
 digit-range b e =
@@ -64,7 +55,7 @@ digits_cons b bs e =
 same_two : {a b c d : ℕ} → a ≡ c → b ≡ d → ◌≡◌ {A = List ℕ} (a ∷ b ∷ []) (c ∷ d ∷ [])
 same_two p q = cc
 
-pub two_digits_read : (bs : List ℕ) (v : ℕ) → length bs ≡ 2 → typed_number bs ≡ number.Value v → bs ≡ two_digits v
+pub two_digits_read : (bs : List ℕ) (v : ℕ) → length bs ≡ 2 → typed_number bs ≡ Some v → bs ≡ two_digits v
 unfolding is_number value_after
 two_digits_read [] v h e = absurd (omega arith)
 two_digits_read (a ∷ []) v h e = absurd (omega arith)
@@ -78,7 +69,7 @@ two_digits_read (a ∷ (b ∷ [])) v h e =
 same_four : {a b c d p q r s : ℕ} → a ≡ p → b ≡ q → c ≡ r → d ≡ s → ◌≡◌ {A = List ℕ} (a ∷ b ∷ c ∷ d ∷ []) (p ∷ q ∷ r ∷ s ∷ [])
 same_four i j k l = cc
 
-four_digits_read : (bs : List ℕ) (v : ℕ) → length bs ≡ 4 → typed_number bs ≡ number.Value v → bs ≡ two_digits (v / 100) ++ two_digits (v % 100)
+four_digits_read : (bs : List ℕ) (v : ℕ) → length bs ≡ 4 → typed_number bs ≡ Some v → bs ≡ two_digits (v / 100) ++ two_digits (v % 100)
 unfolding is_number value_after
 four_digits_read [] v h e = absurd (omega arith)
 four_digits_read (a ∷ []) v h e = absurd (omega arith)
@@ -111,7 +102,8 @@ day_pieces bs h =
 moment_pieces : (bs : List ℕ) → length bs ≡ 16 → bs ≡ part 0 10 bs ++ get_or bs 10 0 ∷ (part 11 2 bs ++ get_or bs 13 0 ∷ part 14 2 bs)
 moment_pieces bs h =
     piece 0 10 bs (omega arith)
-    ∙ ap (λ r. part 0 10 bs ++ get_or bs 10 0 ∷ r) (piece 11 2 bs (omega arith) ∙ ap (λ r. part 11 2 bs ++ get_or bs 13 0 ∷ r) (last_piece 14 2 bs (omega arith)))
+    ∙ ap (λ r. part 0 10 bs ++ get_or bs 10 0 ∷ r)
+    (piece 11 2 bs (omega arith) ∙ ap (λ r. part 11 2 bs ++ get_or bs 13 0 ∷ r) (last_piece 14 2 bs (omega arith)))
 
 joined : {p q r s t u : List ℕ} {a b c d : ℕ} → p ≡ s → a ≡ c → q ≡ t → b ≡ d → r ≡ u → p ++ a ∷ (q ++ b ∷ r) ≡ s ++ c ∷ (t ++ d ∷ u)
 joined x y z v w = cc
@@ -142,25 +134,25 @@ moment_form_lem : (bs : List ℕ) → moment_form bs ≡ true → Form bs moment
 unfolding moment_form
 moment_form_lem bs e = form bs moment_bytes 10 13 blank colon e
 
-date_is : (y m d : ℕ) (to : Date) → date_of y m d ≡ day.Is to → record { year = y; month = m; day = d } ≡ to
+date_is : (y m d : ℕ) (to : Date) → date_of y m d ≡ Some to → record { year = y; month = m; day = d } ≡ to
 unfolding date_of
 date_is y m d to e = by_test (is_date y m d) e
   where
-    by_test : (t : Bool) → cond t (day.Is (record { year = y; month = m; day = d })) day.Bad ≡ day.Is to → record { year = y; month = m; day = d } ≡ to
+    by_test : (t : Bool) → cond t (Some (record { year = y; month = m; day = d })) None ≡ Some to → record { year = y; month = m; day = d } ≡ to
     by_test true p = cc
-    by_test false p = absurd (no_day p)
+    by_test false p = absurd (grind arith)
 
-pub day_text : (bs : List ℕ) (d : Date) → day_in bs ≡ day.Is d → bs ≡ date_text d
+pub day_text : (bs : List ℕ) (d : Date) → day_in bs ≡ Some d → bs ≡ date_text d
 unfolding day_in
 day_text bs to e = go (day_form bs) refl (typed_number (part 0 4 bs)) refl (typed_number (part 5 2 bs)) refl (typed_number (part 8 2 bs)) refl e
   where
-    go : (t : Bool) → day_form bs ≡ t → (y : Number) → typed_number (part 0 4 bs) ≡ y → (m : Number) → typed_number (part 5 2 bs) ≡ m
-        → (d : Number) → typed_number (part 8 2 bs) ≡ d → cond t (day_by y m d) day.Bad ≡ day.Is to → bs ≡ date_text to
-    go false f y i m j d k p = absurd (no_day p)
-    go true f number.Bad i m j d k p = absurd (no_day p)
-    go true f (number.Value y) i number.Bad j d k p = absurd (no_day p)
-    go true f (number.Value y) i (number.Value m) j number.Bad k p = absurd (no_day p)
-    go true f (number.Value y) i (number.Value m) j (number.Value d) k p =
+    go : (t : Bool) → day_form bs ≡ t → (y : Option ℕ) → typed_number (part 0 4 bs) ≡ y → (m : Option ℕ) → typed_number (part 5 2 bs) ≡ m
+        → (d : Option ℕ) → typed_number (part 8 2 bs) ≡ d → cond t (day_by y m d) None ≡ Some to → bs ≡ date_text to
+    go false f y i m j d k p = absurd (grind arith)
+    go true f None i m j d k p = absurd (grind arith)
+    go true f (Some y) i None j d k p = absurd (grind arith)
+    go true f (Some y) i (Some m) j None k p = absurd (grind arith)
+    go true f (Some y) i (Some m) j (Some d) k p =
         let h = day_form_lem bs f in
         let year = four_digits_read (part 0 4 bs) y (part_length 0 4 bs (omega (arith, h.is_long))) i in
         let month = two_digits_read (part 5 2 bs) m (part_length 5 2 bs (omega (arith, h.is_long))) j in

@@ -1,30 +1,26 @@
 -- A number that is a whole text, read as a line of one number (specs/Number).
 --   one_number               the only number of a line is that of its whole text
---   number_bad, number_good  the number, from what was read
+--   number_none, number_some so it is the first of the numbers read
+--   fields_from_start        from the first place on, they are all fields
 -- Assumes nothing.
 use Prim.Native.Nat.{ℕ, zero-le}
-use mathlib.Core.Path.{◌≡◌, refl, sym, ◌∙◌}
-use mathlib.Core.Bool.{true, false, and-false}
+use mathlib.Core.Path.{◌≡◌, refl, ◌∙◌}
+use mathlib.Core.Bool.{false, and-false}
 use mathlib.Core.List.{List, [], ◌∷◌}
-use mathlib.Core.Option.{Option, none, some}
+use Rattle.std.proofs.Common.{Option, None, Some}
 use native.Mathlib.Decide.{ℕ_discrete}
 use borrow.Author.Tests.{le-leb}
-use lib.Dec.{lit<}
 use lib.ListN.{length, get_or}
-use lib.Seq.{get_or-take}
 use Rattle.lists.specs.Tests.{every}
 use Rattle.model.specs.Values.{word_values}
-use Rattle.text.specs.declared.Numbers.{Numbers}
 use Rattle.text.specs.declared.Width.TheVariants.{Word}
 use Rattle.text.specs.Ascii.{blank}
 use Rattle.text.specs.Decimal.{is_digit, is_number, decimal}
 use Rattle.text.specs.Fields.{fields}
 use Rattle.text.specs.Numbers.{numbers, value_and}
-use Rattle.text.specs.Scan.{fields_from, numbers_in}
+use Rattle.text.specs.Scan.{fields_from}
 use Rattle.text.proofs.FieldLaws.{fields-blank, fields_other}
-use Rattle.question.specs.declared.Number.{Number}
-use Rattle.question.specs.declared.Number.TheVariants as number
-use Rattle.question.specs.Number.{number_by, typed_number}
+use Rattle.question.specs.Number.{typed_number}
 
 -- a text is one field, or has two or more and isn't all digits
 data Fielded (bs : List ℕ) : Type 0 where
@@ -51,22 +47,22 @@ fielded [] = whole refl
 fielded (b ∷ bs) = fielded_by b bs (ℕ_discrete b blank) (fielded bs)
 
 -- the first of the numbers read
-abbrev first_number : Option (List ℕ) → Number
-first_number none = number.Bad
-first_number (some vs) = number.Value (get_or vs 0 0)
+abbrev first_number : Option (List ℕ) → Option ℕ
+first_number None = None
+first_number (Some vs) = Some (get_or vs 0 0)
 
 not-number : (bs : List ℕ) → every is_digit bs ≡ false → is_number bs ≡ false
 unfolding is_number
 not-number [] n = refl
 not-number (b ∷ bs) n = n
 
-alone : (o : Option ℕ) → number_by o ≡ first_number (value_and o (some []))
-alone none = refl
-alone (some v) = refl
+alone : (o : Option ℕ) → o ≡ first_number (value_and o (Some []))
+alone None = refl
+alone (Some v) = refl
 
-among : (o : Option ℕ) → number.Bad ≡ first_number (value_and o none)
-among none = refl
-among (some v) = refl
+among : (o : Option ℕ) → None ≡ first_number (value_and o None)
+among None = refl
+among (Some v) = refl
 
 pub one_number : (bs : List ℕ) → typed_number bs ≡ first_number (numbers (Word ∷ []) (fields bs))
 unfolding typed_number numbers decimal
@@ -76,16 +72,16 @@ one_number bs = by-fields (fielded bs)
     by-fields (whole p) = rw p (alone (decimal word_values bs))
     by-fields (parted f g fs p n) = rw (p, not-number bs n) (among (decimal word_values f))
 
-from_start : (bs : List ℕ) → fields_from bs 0 ≡ fields bs
+pub fields_from_start : (bs : List ℕ) → fields_from bs 0 ≡ fields bs
 unfolding fields_from
-from_start bs = rw (le-leb 0 (length bs) zero-le)
+fields_from_start bs = rw (le-leb 0 (length bs) zero-le)
 
-module _ (n : Numbers) (bs : List ℕ) (e : numbers_in n 1 ≡ numbers (Word ∷ []) (fields_from bs 0)) where
-  read : typed_number bs ≡ first_number (numbers_in n 1)
-  read = one_number bs ∙ rw (e, from_start bs)
+module _ (bs : List ℕ) where
+  number_read : (o : Option (List ℕ)) → o ≡ numbers (Word ∷ []) (fields_from bs 0) → first_number o ≡ typed_number bs
+  number_read o e = rw (e, fields_from_start bs, one_number bs)
 
-  pub number_bad : n.good ≡ false → number.Bad ≡ typed_number bs
-  number_bad g = sym (read ∙ rw g)
+  pub number_none : None ≡ numbers (Word ∷ []) (fields_from bs 0) → None ≡ typed_number bs
+  number_none = number_read None
 
-  pub number_good : n.good ≡ true → number.Value (get_or n.values 0 0) ≡ typed_number bs
-  number_good g = sym (read ∙ rw g (rw (get_or-take 1 n.values 0 0 (lit< tt))))
+  pub number_some : (vs : List ℕ) → Some vs ≡ numbers (Word ∷ []) (fields_from bs 0) → Some (get_or vs 0 0) ≡ typed_number bs
+  number_some vs = number_read (Some vs)

@@ -11,6 +11,7 @@
 -- Assumes nothing.
 use Prim.Native.Nat.{ℕ}
 use Prim.Native.String.{String}
+use Rattle.std.proofs.Common.{Option, None, Some, Result, Ok, Err}
 use mathlib.Core.Path.{◌≡◌, refl}
 use mathlib.Core.Bool.{Bool, true, false}
 use mathlib.Core.List.{List, [], ◌∷◌}
@@ -21,17 +22,12 @@ use Rattle.text.specs.Fields.{fields}
 use Rattle.text.specs.Numbers.{numbers}
 use Rattle.calendar.specs.declared.Date.{Date}
 use Rattle.calendar.specs.Calendar.{leap_year, month_days, is_date, next_day, date_after}
-use Rattle.question.specs.declared.Number.TheVariants as number
-use Rattle.question.specs.declared.Day.{Day}
-use Rattle.question.specs.declared.Day.TheVariants as day
 use Rattle.question.specs.declared.Rounding.{Rounding}
 use Rattle.question.specs.declared.Rounding.TheVariants as rounding
-use Rattle.question.specs.declared.Quarter.{Quarter}
-use Rattle.question.specs.declared.Quarter.TheVariants as quarter
-use Rattle.calendar.specs.declared.Base.{Base}
-use Rattle.calendar.specs.declared.Base.TheVariants as base
 use Rattle.question.specs.declared.Question.{Question}
 use Rattle.question.specs.declared.Question.TheVariants as question
+use Rattle.question.specs.declared.NoQuestion.{NoQuestion}
+use Rattle.question.specs.declared.NoQuestion.TheVariants.{NoBase, NotUnderstood}
 use Rattle.question.specs.Number.{typed_number}
 use Rattle.question.specs.Day.{day_form, date_of, day_in}
 use Rattle.question.specs.Quarter.{moment_form, same_date, days_from, quarter_at, time_of, quarter_of}
@@ -41,76 +37,79 @@ use Rattle.question.specs.Question.{has_marks, timed, plain_question, timed_ques
 abbrev on : ℕ → ℕ → ℕ → Date
 on y m d = record { year = y; month = m; day = d }
 
-pub number_cases : (typed_number (ascii "007") ≡ number.Value 7)
-    × (typed_number (ascii "65535") ≡ number.Value 65535)
-    × (typed_number (ascii "65536") ≡ number.Bad)
-    × (typed_number (ascii "-7") ≡ number.Bad)
-    × (typed_number (ascii "7 ") ≡ number.Bad)
-    × (typed_number (ascii "7 8") ≡ number.Bad)
-    × (typed_number (ascii "") ≡ number.Bad)
+pub number_cases : (typed_number (ascii "007") ≡ Some 7)
+    × (typed_number (ascii "65535") ≡ Some 65535)
+    × (typed_number (ascii "65536") ≡ None)
+    × (typed_number (ascii "-7") ≡ None)
+    × (typed_number (ascii "7 ") ≡ None)
+    × (typed_number (ascii "7 8") ≡ None)
+    × (typed_number (ascii "") ≡ None)
 unfolding typed_number decimal is_number value_after every
 number_cases = (refl, refl, refl, refl, refl, refl, refl)
 
-pub day_cases : (day_in (ascii "2028-02-29") ≡ day.Is (on 2028 2 29))
-    × (day_in (ascii "2026-02-29") ≡ day.Bad)
-    × (day_in (ascii "2026-13-01") ≡ day.Bad)
-    × (day_in (ascii "2026-1-010") ≡ day.Bad)
-    × (day_in (ascii "2026-01-011") ≡ day.Bad)
-    × (day_in (ascii "2026/01/01") ≡ day.Bad)
-    × (day_in (ascii "0000-01-01") ≡ day.Bad)
-    × (day_in (ascii "0001-01-01") ≡ day.Is (on 1 1 1))
+pub day_cases : (day_in (ascii "2028-02-29") ≡ Some (on 2028 2 29))
+    × (day_in (ascii "2026-02-29") ≡ None)
+    × (day_in (ascii "2026-13-01") ≡ None)
+    × (day_in (ascii "2026-1-010") ≡ None)
+    × (day_in (ascii "2026-01-011") ≡ None)
+    × (day_in (ascii "2026/01/01") ≡ None)
+    × (day_in (ascii "0000-01-01") ≡ None)
+    × (day_in (ascii "0001-01-01") ≡ Some (on 1 1 1))
 unfolding day_in day_form date_of is_date month_days leap_year typed_number decimal is_number value_after every
 day_cases = (refl, refl, refl, refl, refl, refl, refl, refl)
 
-abbrev Quarters : Rounding → Date → String → Quarter → Type 0
+abbrev Quarters : Rounding → Date → String → Option ℕ → Type 0
 Quarters r base t q = quarter_of r base (ascii t) ≡ q
 
-pub quarter_cases_lem : Quarters rounding.Down (on 2026 1 1) "2026-01-01 00:00" (quarter.Is 0)
-    × Quarters rounding.Down (on 2026 1 1) "2026-01-01 10:14" (quarter.Is 40)
-    × Quarters rounding.Down (on 2026 1 1) "2026-01-01 23:59" (quarter.Is 95)
-    × Quarters rounding.Down (on 2026 1 1) "2026-01-02 00:15" (quarter.Is 97)
-    × Quarters rounding.Down (on 2026 2 28) "2026-03-01 00:00" (quarter.Is 96)
-    × Quarters rounding.Down (on 2026 1 1) "2026-01-01 24:00" quarter.Bad
-    × Quarters rounding.Down (on 2026 1 1) "2026-01-01 10:60" quarter.Bad
-    × Quarters rounding.Down (on 2026 1 1) "2026-01-01  0:00" quarter.Bad
-    × Quarters rounding.Down (on 2026 1 1) "2026-01-01T10:00" quarter.Bad
-    × Quarters rounding.Down (on 2026 2 30) "2026-03-01 00:00" quarter.Bad
+pub quarter_cases_lem : Quarters rounding.Down (on 2026 1 1) "2026-01-01 00:00" (Some 0)
+    × Quarters rounding.Down (on 2026 1 1) "2026-01-01 10:14" (Some 40)
+    × Quarters rounding.Down (on 2026 1 1) "2026-01-01 23:59" (Some 95)
+    × Quarters rounding.Down (on 2026 1 1) "2026-01-02 00:15" (Some 97)
+    × Quarters rounding.Down (on 2026 2 28) "2026-03-01 00:00" (Some 96)
+    × Quarters rounding.Down (on 2026 1 1) "2026-01-01 24:00" None
+    × Quarters rounding.Down (on 2026 1 1) "2026-01-01 10:60" None
+    × Quarters rounding.Down (on 2026 1 1) "2026-01-01  0:00" None
+    × Quarters rounding.Down (on 2026 1 1) "2026-01-01T10:00" None
+    × Quarters rounding.Down (on 2026 2 30) "2026-03-01 00:00" None
 unfolding quarter_of moment_form time_of quarter_at days_from same_date date_after next_day day_in day_form date_of is_date month_days leap_year
     typed_number decimal is_number value_after every
 quarter_cases_lem = (refl, refl, refl, refl, refl, refl, refl, refl, refl, refl)
 
-pub rounded_up_cases : Quarters rounding.Up (on 2026 1 1) "2026-01-01 00:00" (quarter.Is 0)
-    × Quarters rounding.Up (on 2026 1 1) "2026-01-01 22:00" (quarter.Is 88)
-    × Quarters rounding.Up (on 2026 1 1) "2026-01-01 22:01" (quarter.Is 89)
-    × Quarters rounding.Up (on 2026 1 1) "2026-01-01 22:14" (quarter.Is 89)
-    × Quarters rounding.Up (on 2026 1 1) "2026-01-01 22:15" (quarter.Is 89)
-    × Quarters rounding.Up (on 2026 1 1) "2026-01-01 23:46" (quarter.Is 96)
-    × Quarters rounding.Up (on 2026 1 1) "2026-01-01 22:60" quarter.Bad
+pub rounded_up_cases : Quarters rounding.Up (on 2026 1 1) "2026-01-01 00:00" (Some 0)
+    × Quarters rounding.Up (on 2026 1 1) "2026-01-01 22:00" (Some 88)
+    × Quarters rounding.Up (on 2026 1 1) "2026-01-01 22:01" (Some 89)
+    × Quarters rounding.Up (on 2026 1 1) "2026-01-01 22:14" (Some 89)
+    × Quarters rounding.Up (on 2026 1 1) "2026-01-01 22:15" (Some 89)
+    × Quarters rounding.Up (on 2026 1 1) "2026-01-01 23:46" (Some 96)
+    × Quarters rounding.Up (on 2026 1 1) "2026-01-01 22:60" None
 unfolding quarter_of moment_form time_of quarter_at days_from same_date date_after next_day day_in day_form date_of is_date month_days leap_year
     typed_number decimal is_number value_after every
 rounded_up_cases = (refl, refl, refl, refl, refl, refl, refl)
 
 -- the last quarter-hour that is counted, 682 days after the base day: it begins at 15:45
-pub last-quarter_cases : (quarter_at rounding.Down 682 15 59 ≡ quarter.Is 65535)
-    × (quarter_at rounding.Up 682 15 45 ≡ quarter.Is 65535)
-    × (quarter_at rounding.Up 682 15 46 ≡ quarter.Bad)
-    × (quarter_at rounding.Down 682 16 0 ≡ quarter.Bad)
+pub last-quarter_cases : (quarter_at rounding.Down 682 15 59 ≡ Some 65535)
+    × (quarter_at rounding.Up 682 15 45 ≡ Some 65535)
+    × (quarter_at rounding.Up 682 15 46 ≡ None)
+    × (quarter_at rounding.Down 682 16 0 ≡ None)
 unfolding quarter_at
 last-quarter_cases = (refl, refl, refl, refl)
 
-abbrev new_year : Base
-new_year = base.Day (on 2026 1 1)
+abbrev new_year : Option Date
+new_year = Some (on 2026 1 1)
 
-abbrev Asks : Base → String → Question → Type 0
-Asks b t q = question_of b (ascii t) ≡ q
+abbrev Asks : Option Date → String → Question → Type 0
+Asks b t q = question_of b (ascii t) ≡ Ok q
+
+abbrev AsksNothing : Option Date → String → NoQuestion → Type 0
+AsksNothing b t n = question_of b (ascii t) ≡ Err n
 
 pub question_cases : Asks new_year "who 12 40" (question.Who 12 40)
-    × Asks base.Unknown "who 12 40" (question.Who 12 40)
+    × Asks None "who 12 40" (question.Who 12 40)
     × Asks new_year "may 150 12 40" (question.May 150 12 40)
     × Asks new_year "who 12 2026-01-01 10:00" (question.Who 12 40)
     × Asks new_year "may 150 12 2026-01-02 00:20" (question.May 150 12 97)
-    × Asks base.Unknown "who 12 2026-01-01 10:00" question.NoBase
-    × Asks base.Unknown "may 150 12 2026-01-01 10:00" question.NoBase
+    × AsksNothing None "who 12 2026-01-01 10:00" NoBase
+    × AsksNothing None "may 150 12 2026-01-01 10:00" NoBase
     × Asks new_year "" question.More
     × Asks new_year "help" question.Help
     × Asks new_year "quit" question.Quit
@@ -119,28 +118,23 @@ unfolding question_of timed has_marks plain_question timed_question dated_questi
 question_cases = (refl, refl, refl, refl, refl, refl, refl, refl, refl, refl)
 
 pub covers_cases : Asks new_year "covers 7 12 24 56" (question.Covers 7 12 24 56)
-    × Asks base.Unknown "covers 7 12 24 56" (question.Covers 7 12 24 56)
+    × Asks None "covers 7 12 24 56" (question.Covers 7 12 24 56)
     × Asks new_year "covers 7 12 56 24" (question.Covers 7 12 56 24)
     × Asks new_year "covers 7 12 24 24" (question.Covers 7 12 24 24)
     × Asks new_year "covers 7 12 2026-01-01 06:00 2026-01-01 14:00" (question.Covers 7 12 24 56)
     × Asks new_year "covers 7 12 2026-01-01 06:14 2026-01-01 22:07" (question.Covers 7 12 24 89)
     × Asks new_year "covers 7 12 2026-01-01 22:00 2026-01-02 06:00" (question.Covers 7 12 88 120)
     × Asks new_year "covers 7 12 2026-01-02 06:00 2026-01-01 22:00" (question.Covers 7 12 120 88)
-    × Asks base.Unknown "covers 7 12 2026-01-01 06:00 2026-01-01 14:00" question.NoBase
-    × Asks base.Unknown "covers 7 12 24 2026-01-01 14:00" question.NoBase
+    × AsksNothing None "covers 7 12 2026-01-01 06:00 2026-01-01 14:00" NoBase
+    × AsksNothing None "covers 7 12 24 2026-01-01 14:00" NoBase
 unfolding question_of timed has_marks plain_question span_question dated_question begins same_numbers numbers fields quarter_of moment_form time_of quarter_at
     days_from same_date date_after next_day day_in day_form date_of is_date month_days leap_year typed_number decimal is_number value_after every
 covers_cases = (refl, refl, refl, refl, refl, refl, refl, refl, refl, refl)
 
-abbrev is_bad : Question → Bool
-is_bad (question.Who door at) = false
-is_bad (question.May staff door at) = false
-is_bad (question.Covers staff door from to) = false
-is_bad question.More = false
-is_bad question.Help = false
-is_bad question.Quit = false
-is_bad question.NoBase = false
-is_bad question.Bad = true
+abbrev is_bad : Result Question NoQuestion → Bool
+is_bad (Ok q) = false
+is_bad (Err NoBase) = false
+is_bad (Err NotUnderstood) = true
 
 abbrev bad_lines : List String
 bad_lines =
@@ -159,11 +153,11 @@ bad_times =
     ∷ "covers 2026-01-01 06:00 2026-01-01 14:00" ∷ "who 12 2026-01-01 06:00 2026-01-01 14:00" ∷ "may 7 12 2026-01-01 06:00 2026-01-01 14:00" ∷ []
 
 pub bad_questions : every (λ t. is_bad (question_of new_year (ascii t))) bad_lines ≡ true
-unfolding question_of timed has_marks plain_question timed_question span_question dated_question begins same_numbers numbers fields quarter_of moment_form time_of
-    quarter_at days_from same_date date_after next_day day_in day_form date_of is_date month_days leap_year typed_number decimal is_number value_after every
+unfolding question_of timed has_marks plain_question timed_question span_question dated_question begins same_numbers numbers fields quarter_of moment_form
+    time_of quarter_at days_from same_date date_after next_day day_in day_form date_of is_date month_days leap_year typed_number decimal is_number value_after every
 bad_questions = refl
 
 pub bad_times_lem : every (λ t. is_bad (question_of new_year (ascii t))) bad_times ≡ true
-unfolding question_of timed has_marks plain_question timed_question span_question dated_question begins same_numbers numbers fields quarter_of moment_form time_of
-    quarter_at days_from same_date date_after next_day day_in day_form date_of is_date month_days leap_year typed_number decimal is_number value_after every
+unfolding question_of timed has_marks plain_question timed_question span_question dated_question begins same_numbers numbers fields quarter_of moment_form
+    time_of quarter_at days_from same_date date_after next_day day_in day_form date_of is_date month_days leap_year typed_number decimal is_number value_after every
 bad_times_lem = refl

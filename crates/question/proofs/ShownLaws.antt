@@ -6,6 +6,7 @@
 --   quarter-shown             the text of a quarter is read as the quarter, rounded down or up, from a base day of the years 1 to 9316
 -- Assumes nothing.
 use Prim.Native.Nat.{ℕ, zero, suc, ◌+◌, ◌-◌, ◌*◌, ◌/◌, ◌%◌, ◌<◌, ◌≤◌}
+use Rattle.std.proofs.Common.{Some}
 use mathlib.Core.Path.{◌≡◌, refl, sym, ap, ◌∙◌}
 use mathlib.Core.Bool.{Bool, true, false, cond}
 use mathlib.Core.List.{◌++◌}
@@ -20,12 +21,9 @@ use Rattle.text.specs.Decimal.{zero_digit, nine_digit, is_number, value_after, d
 use Rattle.calendar.specs.declared.Date.{Date}
 use Rattle.calendar.specs.Calendar.{last_year, month_days, next_day, date_after, day_of, hour_of, minute_of}
 use Rattle.calendar.specs.Moment.{two_digits, date_text, moment_text}
-use Rattle.calendar.proofs.CalendarLaws.{IsDate, is_date_iff, next_date, next-year}
-use Rattle.question.specs.declared.Number.TheVariants as number
-use Rattle.question.specs.declared.Day.TheVariants as day
+use Rattle.calendar.proofs.CalendarLaws.{IsDate, is_date_iff, next_date, next_day_year, after_year}
 use Rattle.question.specs.declared.Rounding.{Rounding}
 use Rattle.question.specs.declared.Rounding.TheVariants as rounding
-use Rattle.question.specs.declared.Quarter.TheVariants as quarter
 use Rattle.question.specs.Number.{typed_number}
 use Rattle.question.specs.Day.{day_form, date_of, day_in}
 use Rattle.question.specs.Quarter.{moment_form, same_date, days_from, days_since, days_limit, last_quarter, minutes_added, quarter_at, time_of, quarter_of}
@@ -38,7 +36,7 @@ low d = omega arith
 high : (d : ℕ) → d < 10 → zero_digit + d ≤ nine_digit
 high d h = omega arith
 
-pub number_two : (n : ℕ) → n < 100 → typed_number (two_digits n) ≡ number.Value n
+pub number_two : (n : ℕ) → n < 100 → typed_number (two_digits n) ≡ Some n
 unfolding typed_number decimal is_number every value_after
 number_two n h =
     let a = n / 10 % 10 in
@@ -57,7 +55,7 @@ four_value : (a b x y hundreds rest n : ℕ) → hundreds ≡ a * 10 + b → res
     → (((0 * 10 + (zero_digit + a - zero_digit)) * 10 + (zero_digit + b - zero_digit)) * 10 + (zero_digit + x - zero_digit)) * 10 + (zero_digit + y - zero_digit) ≡ n
 four_value a b x y hundreds rest n p q r = omega arith
 
-pub number_four : (n : ℕ) → n < 10000 → typed_number (two_digits (n / 100) ++ two_digits (n % 100)) ≡ number.Value n
+pub number_four : (n : ℕ) → n < 10000 → typed_number (two_digits (n / 100) ++ two_digits (n % 100)) ≡ Some n
 unfolding typed_number decimal is_number every value_after
 number_four n h =
     let a = n / 100 / 10 % 10 in
@@ -81,7 +79,7 @@ number_four n h =
 day_most : (d : Date) → IsDate d → d.day ≤ 31
 day_most d h = omega (arith, h.day_high, month_days_most d.year d.month)
 
-pub day_shown : (d : Date) → IsDate d → day_in (date_text d) ≡ day.Is d
+pub day_shown : (d : Date) → IsDate d → day_in (date_text d) ≡ Some d
 unfolding day_in day_form date_of
 day_shown d h =
     rw (
@@ -91,13 +89,10 @@ day_shown d h =
       (is_date_iff d).1 h,
     )
 
-next_soon : (d : Date) → d.year < last_year → (next_day d).year ≤ d.year + 1
-next_soon d h = omega (arith, next-year d (word_values - 1 - d.year) {e = next_day d} (omega arith) (omega arith) refl)
-
 pub after_date : (n : ℕ) (d : Date) → IsDate d → d.year + n ≤ last_year → IsDate (date_after d n)
 unfolding date_after
 after_date zero d h fits = h
-after_date (suc n) d h fits = after_date n (next_day d) (next_date d h (omega arith)) (omega (arith, next_soon d (omega arith)))
+after_date (suc n) d h fits = after_date n (next_day d) (next_date d h (omega arith)) (omega (arith, next_day_year d))
 
 -- a number that is higher for a later day
 abbrev later : Date → ℕ
@@ -118,7 +113,7 @@ pub after_later : (n : ℕ) (d : Date) → IsDate d → d.year + n ≤ last_year
 unfolding date_after
 after_later zero d h fits = omega arith
 after_later (suc n) d h fits =
-    omega (arith, next_later d h, after_later n (next_day d) (next_date d h (omega arith)) (omega (arith, next_soon d (omega arith))))
+    omega (arith, next_later d h, after_later n (next_day d) (next_date d h (omega arith)) (omega (arith, next_day_year d)))
 
 after_add : (n k : ℕ) (d : Date) → date_after d (n + k) ≡ date_after (date_after d n) k
 unfolding date_after
@@ -129,13 +124,6 @@ same_self : (d : Date) → same_date d d ≡ true
 unfolding same_date
 same_self d = rw (eq-eqb d.year d.year refl, eq-eqb d.month d.month refl, eq-eqb d.day d.day refl)
 
-after-year : (n : ℕ) (d : Date) → d.year + n ≤ last_year → (date_after d n).year ≤ d.year + n
-unfolding date_after
-after-year zero d fits = omega arith
-after-year (suc n) d fits =
-    let soon = next_soon d (omega arith) in
-    omega (arith, soon, after-year n (next_day d) (omega (arith, soon)))
-
 true_false : true ≡ false → ⊥
 true_false e = let z : ◌≡◌ {A = ℕ} 0 1 = cc in omega arith
 
@@ -144,7 +132,7 @@ module _ (base : Date) (h : IsDate base) (n : ℕ) (fits : base.year + n ≤ las
   distinct i less e =
       let k : n ≡ i + (n - i) = omega arith in
       let there = ap (date_after base) k ∙ after_add i (n - i) base in
-      let year = after-year i base (omega arith) in
+      let year = after_year base i in
       let grown = after_later (n - i) (date_after base i) (after_date i base h (omega arith)) (omega (arith, year)) in
       omega (arith, ap later (e ∙ there), grown)
 
@@ -178,7 +166,7 @@ begins-whole rounding.Down q = omega arith
 begins-whole rounding.Up q = omega arith
 
 pub quarter-shown : (r : Rounding) (base : Date) (q : ℕ) → IsDate base → base.year + days_limit ≤ last_year → q ≤ last_quarter
-    → quarter_of r base (moment_text base q) ≡ quarter.Is q
+    → quarter_of r base (moment_text base q) ≡ Some q
 unfolding quarter_of moment_form time_of quarter_at
 quarter-shown r base q h fits last =
     let n = day_of q in

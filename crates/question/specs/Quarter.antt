@@ -5,25 +5,19 @@
 --   days_since base day         the days from the base day to the day; `days_limit`, more than the quarters reach, where it comes later or before
 --   TimeInReach n h m          a time from 00:00 to 23:59, at most `days_limit` days after the base day
 --   minutes_added r             what is added to the minutes before they are counted in quarter-hours: nothing to round down, 14 to round up
---   quarter_at r n h m          the quarter of a time n days after the base day; Bad where it is above `last_quarter`
+--   quarter_at r n h m          the quarter of a time n days after the base day; None where it is above `last_quarter`
 --   time_of r base day h m      the quarter of a day and a time from 00:00 to 23:59
 --   quarter_of r base bs        the quarter of the day and time that are the whole text: rounded down, the one that they lie in; rounded up, the
---                              first that begins at them or later; Bad for any other text, a day before the base day, a quarter above 65535,
+--                              first that begins at them or later; None for any other text, a day before the base day, a quarter above 65535,
 --                              and where the base day is no day
 -- Assumes nothing: these are definitions.
-use Rattle.std.specs.Prelude.{ℕ, zero, suc, ◌+◌, ◌*◌, ◌/◌, ◌≤◌, Bool, cond, ◌&&◌, List, eqb, leb, length, get_or}
+use Rattle.std.specs.Prelude.{ℕ, zero, suc, ◌+◌, ◌*◌, ◌/◌, ◌≤◌, Bool, cond, ◌&&◌, List, eqb, leb, length, get_or, Option, None, Some}
 use Rattle.text.specs.Ascii.{blank}
 use Rattle.calendar.specs.declared.Date.{Date}
 use Rattle.calendar.specs.Calendar.{is_date, date_after}
 use Rattle.calendar.specs.Moment.{colon, moment_bytes}
-use Rattle.question.specs.declared.Number.{Number}
-use Rattle.question.specs.declared.Number.TheVariants as number
-use Rattle.question.specs.declared.Day.{Day}
-use Rattle.question.specs.declared.Day.TheVariants as day
 use Rattle.question.specs.declared.Rounding.{Rounding}
 use Rattle.question.specs.declared.Rounding.TheVariants as rounding
-use Rattle.question.specs.declared.Quarter.{Quarter}
-use Rattle.question.specs.declared.Quarter.TheVariants as quarter
 use Rattle.question.specs.Number.{typed_number}
 use Rattle.question.specs.Day.{part, day_in}
 
@@ -55,22 +49,22 @@ abbrev pub minutes_added : Rounding → ℕ
 minutes_added rounding.Down = 0
 minutes_added rounding.Up = 14
 
-unfoldable pub quarter_at : Rounding → ℕ → ℕ → ℕ → Quarter
+unfoldable pub quarter_at : Rounding → ℕ → ℕ → ℕ → Option ℕ
 quarter_at r n hour minute =
     let q = 96 * n + 4 * hour + (minute + minutes_added r) / 15 in
-    cond (leb q last_quarter) (quarter.Is q) quarter.Bad
+    cond (leb q last_quarter) (Some q) None
 
-unfoldable pub time_of : Rounding → Date → Date → ℕ → ℕ → Quarter
-time_of r base day hour minute = cond (leb hour 23 && leb minute 59) (quarter_at r (days_since base day) hour minute) quarter.Bad
+unfoldable pub time_of : Rounding → Date → Date → ℕ → ℕ → Option ℕ
+time_of r base day hour minute = cond (leb hour 23 && leb minute 59) (quarter_at r (days_since base day) hour minute) None
 
 -- the quarter of the day, the hour and the minute, where all are there
-abbrev pub quarter_by : Rounding → Date → Day → Number → Number → Quarter
-quarter_by r base day.Bad h m = quarter.Bad
-quarter_by r base (day.Is d) number.Bad m = quarter.Bad
-quarter_by r base (day.Is d) (number.Value h) number.Bad = quarter.Bad
-quarter_by r base (day.Is d) (number.Value h) (number.Value m) = time_of r base d h m
+abbrev pub quarter_by : Rounding → Date → Option Date → Option ℕ → Option ℕ → Option ℕ
+quarter_by r base None h m = None
+quarter_by r base (Some d) None m = None
+quarter_by r base (Some d) (Some h) None = None
+quarter_by r base (Some d) (Some h) (Some m) = time_of r base d h m
 
-unfoldable pub quarter_of : Rounding → Date → List ℕ → Quarter
+unfoldable pub quarter_of : Rounding → Date → List ℕ → Option ℕ
 quarter_of r base bs =
     cond (is_date base.year base.month base.day && moment_form bs)
-    (quarter_by r base (day_in (part 0 10 bs)) (typed_number (part 11 2 bs)) (typed_number (part 14 2 bs))) quarter.Bad
+    (quarter_by r base (day_in (part 0 10 bs)) (typed_number (part 11 2 bs)) (typed_number (part 14 2 bs))) None

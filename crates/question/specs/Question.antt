@@ -13,11 +13,10 @@
 --   timed_question q bs        what the front of a line asks whose day and time are in the quarter q
 --   span_question from to bs   what the front of a line asks whose two days and times are the quarters from and to
 --   dated_question d bs        what a line with a day and time asks, or with two, for a base day
---   question_of base bs        what a line asks; Bad for a line of any other form, one with a quarter's number and a day and time, and one of more
+--   question_of base bs        what a line asks; NotUnderstood for a line of any other form, one with a quarter's number and a day and time, and one of more
 --                             than `line_bytes`; NoBase for a line that ends in a day and time where no base day is known
 -- Assumes nothing: these are definitions.
-use Rattle.std.specs.Prelude.{ℕ, ◌-◌, Bool, cond, ◌&&◌, List, [], ◌∷◌, eqb, leb, length, get_or, take, drop}
-use Rattle.std.proofs.Math.Option.{Option, none, some}
+use Rattle.std.specs.Prelude.{ℕ, ◌-◌, Bool, cond, ◌&&◌, List, [], ◌∷◌, eqb, leb, length, get_or, take, drop, Option, None, Some, Result, Err, ok_or}
 use Rattle.lists.specs.Tests.{same_numbers}
 use Rattle.text.specs.declared.Width.TheVariants.{Word}
 use Rattle.text.specs.Ascii.{ascii, blank}
@@ -25,13 +24,11 @@ use Rattle.text.specs.Fields.{fields}
 use Rattle.text.specs.Numbers.{numbers}
 use Rattle.calendar.specs.Moment.{dash, colon, moment_bytes}
 use Rattle.calendar.specs.declared.Date.{Date}
-use Rattle.calendar.specs.declared.Base.{Base}
-use Rattle.calendar.specs.declared.Base.TheVariants as base
 use Rattle.question.specs.declared.Rounding.TheVariants as rounding
-use Rattle.question.specs.declared.Quarter.{Quarter}
-use Rattle.question.specs.declared.Quarter.TheVariants as quarter
 use Rattle.question.specs.declared.Question.{Question}
 use Rattle.question.specs.declared.Question.TheVariants as question
+use Rattle.question.specs.declared.NoQuestion.{NoQuestion}
+use Rattle.question.specs.declared.NoQuestion.TheVariants.{NoBase, NotUnderstood}
 use Rattle.question.specs.Day.{part}
 use Rattle.question.specs.Quarter.{quarter_of}
 use Rattle.question.specs.Word.{begins}
@@ -55,10 +52,10 @@ front bs = take (length bs - 17) bs
 abbrev pub after_word : List ℕ → List ℕ → List (List ℕ)
 after_word ws bs = fields (drop (length ws) bs)
 
--- a question of the values, Bad where there are none
-abbrev pub question_by : (List ℕ → Question) → Option (List ℕ) → Question
-question_by ask none = question.Bad
-question_by ask (some vs) = ask vs
+-- a question of the values, None where there are none
+abbrev pub question_by : (List ℕ → Question) → Option (List ℕ) → Option Question
+question_by ask None = None
+question_by ask (Some vs) = Some (ask vs)
 
 abbrev pub who_of : List ℕ → Question
 who_of vs = question.Who (get_or vs 0 0) (get_or vs 1 0)
@@ -79,44 +76,45 @@ may_at q vs = question.May (get_or vs 0 0) (get_or vs 1 0) q
 abbrev pub covers_at : ℕ → ℕ → List ℕ → Question
 covers_at from to vs = question.Covers (get_or vs 0 0) (get_or vs 1 0) from to
 
-unfoldable pub plain_question : List ℕ → Question
+unfoldable pub plain_question : List ℕ → Option Question
 plain_question bs =
     cond (begins (ascii "who ") bs) (question_by who_of (numbers (Word ∷ Word ∷ []) (after_word (ascii "who ") bs)))
     (cond (begins (ascii "may ") bs) (question_by may_of (numbers (Word ∷ Word ∷ Word ∷ []) (after_word (ascii "may ") bs)))
     (cond (begins (ascii "covers ") bs) (question_by covers_of (numbers (Word ∷ Word ∷ Word ∷ Word ∷ []) (after_word (ascii "covers ") bs)))
-    (cond (same_numbers bs []) question.More
-    (cond (same_numbers bs (ascii "help")) question.Help
-    (cond (same_numbers bs (ascii "quit")) question.Quit question.Bad)))))
+    (cond (same_numbers bs []) (Some question.More)
+    (cond (same_numbers bs (ascii "help")) (Some question.Help)
+    (cond (same_numbers bs (ascii "quit")) (Some question.Quit) None)))))
 
-unfoldable pub timed_question : ℕ → List ℕ → Question
+unfoldable pub timed_question : ℕ → List ℕ → Option Question
 timed_question q bs =
     cond (begins (ascii "who ") bs) (question_by (who_at q) (numbers (Word ∷ []) (after_word (ascii "who ") bs)))
-    (cond (begins (ascii "may ") bs) (question_by (may_at q) (numbers (Word ∷ Word ∷ []) (after_word (ascii "may ") bs))) question.Bad)
+    (cond (begins (ascii "may ") bs) (question_by (may_at q) (numbers (Word ∷ Word ∷ []) (after_word (ascii "may ") bs))) None)
 
 -- what the front of a line asks, by the quarter of its day and time
-abbrev pub quarter_question : Quarter → List ℕ → Question
-quarter_question (quarter.Is q) bs = timed_question q bs
-quarter_question quarter.Bad bs = question.Bad
+abbrev pub quarter_question : Option ℕ → List ℕ → Option Question
+quarter_question (Some q) bs = timed_question q bs
+quarter_question None bs = None
 
-unfoldable pub span_question : ℕ → ℕ → List ℕ → Question
+unfoldable pub span_question : ℕ → ℕ → List ℕ → Option Question
 span_question from to bs =
-    cond (begins (ascii "covers ") bs) (question_by (covers_at from to) (numbers (Word ∷ Word ∷ []) (after_word (ascii "covers ") bs))) question.Bad
+    cond (begins (ascii "covers ") bs) (question_by (covers_at from to) (numbers (Word ∷ Word ∷ []) (after_word (ascii "covers ") bs))) None
 
 -- what the front of a line asks, by the quarters of its two days and times
-abbrev pub quarters_question : Quarter → Quarter → List ℕ → Question
-quarters_question (quarter.Is from) (quarter.Is to) bs = span_question from to bs
-quarters_question (quarter.Is from) quarter.Bad bs = question.Bad
-quarters_question quarter.Bad to bs = question.Bad
+abbrev pub quarters_question : Option ℕ → Option ℕ → List ℕ → Option Question
+quarters_question (Some from) (Some to) bs = span_question from to bs
+quarters_question (Some from) None bs = None
+quarters_question None to bs = None
 
-unfoldable pub dated_question : Date → List ℕ → Question
+unfoldable pub dated_question : Date → List ℕ → Option Question
 dated_question d bs =
     cond (timed (front bs)) (quarters_question (quarter_of rounding.Down d (ending (front bs))) (quarter_of rounding.Up d (ending bs)) (front (front bs)))
     (quarter_question (quarter_of rounding.Down d (ending bs)) (front bs))
 
 -- the same, where the base day may not be known
-abbrev pub ended_question : Base → List ℕ → Question
-ended_question base.Unknown bs = question.NoBase
-ended_question (base.Day d) bs = dated_question d bs
+abbrev pub ended_question : Option Date → List ℕ → Result Question NoQuestion
+ended_question None bs = Err NoBase
+ended_question (Some d) bs = ok_or (dated_question d bs) NotUnderstood
 
-unfoldable pub question_of : Base → List ℕ → Question
-question_of base bs = cond (leb (length bs) line_bytes) (cond (timed bs) (ended_question base bs) (plain_question bs)) question.Bad
+unfoldable pub question_of : Option Date → List ℕ → Result Question NoQuestion
+question_of base bs =
+    cond (leb (length bs) line_bytes) (cond (timed bs) (ended_question base bs) (ok_or (plain_question bs) NotUnderstood)) (Err NotUnderstood)

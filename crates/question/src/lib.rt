@@ -1,29 +1,11 @@
 // What an attendant types at the panel: a number, a day, a day and time as a quarter, and a whole line as a question.
-// Each reads any text; one of another form is Bad. Nothing here knows of an index, and nothing is refused.
+// Each reads any text; one of another form is none of these. Nothing here knows of an index, and nothing is refused.
 #![tactic(auto)]
 
 pub mod asking;
-mod covering;
 pub mod dates;
 pub mod decimal;
 pub mod quarters;
-mod words;
-
-use calendar::Date;
-
-// A text read as a number.
-#[derive(Clone, Copy)]
-pub enum Number {
-    Value(u16),
-    Bad,
-}
-
-// A text read as a day.
-#[derive(Clone, Copy)]
-pub enum Day {
-    Is(Date),
-    Bad,
-}
 
 // Which quarter a day and time is counted as: the one that it lies in, or the first that begins at it or later.
 #[derive(Clone, Copy)]
@@ -32,16 +14,8 @@ pub enum Rounding {
     Up,
 }
 
-// A text read as the quarter of a day and time.
-#[derive(Clone, Copy)]
-pub enum Quarter {
-    Is(u16),
-    Bad,
-}
-
 // What a line asks: who may open a door in a quarter, whether one of the staff may, which grants cover one of the staff at a door over all quarters
 // from `from` to before `to`, the next lines of an answer, the help, or the end.
-// NoBase: it ends in a day and time, and no base day is known.
 #[derive(Clone, Copy)]
 pub enum Question {
     Who {
@@ -62,6 +36,11 @@ pub enum Question {
     More,
     Help,
     Quit,
+}
+
+// Why a line asks nothing: it ends in a day and time, and no base day is known; or it has another form.
+#[derive(Clone, Copy)]
+pub enum NoQuestion {
     NoBase,
-    Bad,
+    NotUnderstood,
 }

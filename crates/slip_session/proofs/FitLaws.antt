@@ -9,13 +9,12 @@ use mathlib.Core.Path.{◌≡◌, refl}
 use mathlib.Core.Bool.{Bool, true, false, cond}
 use mathlib.Core.List.Memᴰ
 use mathlib.Core.List.{List, [], ◌∷◌}
-use mathlib.Core.Option.{Option, none, some}
+use Rattle.std.proofs.Common.{Option, None, Some}
 use lib.Dec.{eqb, ltb, lit<}
 use lib.ListN.{length, get_or}
 use Rattle.model.specs.Call.{Call}
 use Rattle.model.specs.Values.{word_values, Below, BoxFits, CallFits}
 use Rattle.slip_session.specs.declared.Slip.{Slip}
-use Rattle.slip_session.specs.declared.Slip.TheVariants as slip
 use Rattle.text.specs.declared.Width.TheVariants.{Word}
 use Rattle.text.specs.Width.{values_of}
 use Rattle.text.specs.Fields.{fields}
@@ -27,8 +26,8 @@ use Rattle.slip_session.specs.Longest.{longest, slip_of}
 use Rattle.slip_session.specs.SlipCall.{call_of}
 
 abbrev pub Fits : Option Call → Type 0
-Fits none = Unit {0}
-Fits (some call) = CallFits call
+Fits None = Unit {0}
+Fits (Some call) = CallFits call
 
 below_none : Below word_values []
 below_none x m = absurd (Memᴰ.not-nil m)
@@ -38,26 +37,26 @@ below_more h rest y (Memᴰ.head p) = rw p h
 below_more h rest y (Memᴰ.tail m) = rest y m
 
 module _ (lent : List ℕ) where
-  abbrev SlipFits : Slip → Type 0
+  abbrev SlipFits : Option Slip → Type 0
   SlipFits s = Fits (call_of s lent)
 
   -- of one of two slips
-  fits_either : (b : Bool) (s t : Slip) → SlipFits s → SlipFits t → SlipFits (cond b s t)
+  fits_either : (b : Bool) (s t : Option Slip) → SlipFits s → SlipFits t → SlipFits (cond b s t)
   fits_either true s t f g = f
   fits_either false s t f g = g
 
   -- of the call that values make, if any values make one that fits
-  fits_by : (call : List ℕ → Slip) (o : Option (List ℕ)) → ((vs : List ℕ) → SlipFits (call vs)) → SlipFits (slip_by call o)
-  fits_by call none each = tt
-  fits_by call (some vs) each = each vs
+  fits_by : (call : List ℕ → Slip) (o : Option (List ℕ)) → ((vs : List ℕ) → SlipFits (Some (call vs))) → SlipFits (slip_by call o)
+  fits_by call None each = tt
+  fits_by call (Some vs) each = each vs
 
   module _ (fs : List (List ℕ)) where
     grant-fits : SlipFits (slip_by grant_slip (numbers grant_widths fs))
     grant-fits = go (numbers grant_widths fs) refl
       where
         go : (o : Option (List ℕ)) → numbers grant_widths fs ≡ o → SlipFits (slip_by grant_slip o)
-        go none e = tt
-        go (some vs) e = record { number = fit 0 (lit< tt); rank = fit 1 (lit< tt); bounds = bounds }
+        go None e = tt
+        go (Some vs) e = record { number = fit 0 (lit< tt); rank = fit 1 (lit< tt); bounds = bounds }
           where
             fit : (i : ℕ) → i < length grant_widths → get_or vs i 0 < values_of (get_or grant_widths i Word)
             fit i h = numbers_fit grant_widths fs vs i Word e h
@@ -77,7 +76,7 @@ module _ (lent : List ℕ) where
         (fits_either (eqb b (code "R")) _ _ (fits_by revoke_slip (numbers revoke_widths fs) (λ vs. tt))
         (fits_either (eqb b (code "L")) _ _ (fits_by list_slip (numbers box_widths fs) (λ vs. tt))
         (fits_either (eqb b (code "D")) _ _ (fits_by decide_slip (numbers decide_widths fs) (λ vs. tt))
-        (fits_either (eqb b (code "C")) _ slip.Bad (fits_by count_slip (numbers [] fs) (λ vs. tt)) tt))))
+        (fits_either (eqb b (code "C")) _ None (fits_by count_slip (numbers [] fs) (λ vs. tt)) tt))))
 
   fields_fit : (fs : List (List ℕ)) → SlipFits (fields_slip fs)
   unfolding fields_slip
@@ -88,4 +87,4 @@ module _ (lent : List ℕ) where
 
   pub line-fits : (line : List ℕ) → Fits (call_of (slip_of line) lent)
   unfolding parse_line
-  line-fits line = fits_either (ltb longest (length line)) slip.Bad (parse_line line) tt (fields_fit (fields line))
+  line-fits line = fits_either (ltb longest (length line)) None (parse_line line) tt (fields_fit (fields line))

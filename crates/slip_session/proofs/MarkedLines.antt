@@ -10,16 +10,14 @@ use Prim.Native.String.{String}
 use mathlib.Core.Path.{◌≡◌, refl}
 use mathlib.Core.Bool.{Bool, true, false}
 use mathlib.Core.List.{List, [], ◌∷◌}
+use Rattle.std.proofs.Common.{Option, None, Some, Ok, Err}
 use Rattle.lists.specs.Tests.{every}
 use Rattle.model.specs.declared.Box.{Box}
 use Rattle.model.specs.declared.Grant.{Grant}
 use Rattle.model.specs.declared.Kind.{Kind}
 use Rattle.model.specs.declared.Kind.TheVariants.{Bars, Opens}
 use Rattle.model.specs.declared.Fault.TheVariants.{AlreadyLive}
-use Rattle.model.specs.declared.Outcome.TheVariants as outcome
-use Rattle.model.specs.declared.Listed.TheVariants as listed
 use Rattle.model.specs.declared.Decision.TheVariants as decision
-use Rattle.model.specs.declared.Counted.TheVariants as counted
 use Rattle.slip_session.specs.declared.Slip.{Slip}
 use Rattle.slip_session.specs.declared.Slip.TheVariants as slip
 use Rattle.text.specs.Ascii.{ascii}
@@ -31,7 +29,7 @@ use Rattle.text.specs.Numbers.{numbers}
 use Rattle.slip_session.specs.Text.{each_after_blank, outcome_text, listed_text, decision_text, counted_text, bad_text}
 
 abbrev Means : String → Slip → Type 0
-Means t s = parse_line (ascii t) ≡ s
+Means t s = parse_line (ascii t) ≡ Some s
 
 abbrev box_of : ℕ → ℕ → ℕ → ℕ → ℕ → ℕ → Box
 box_of a b c d e f = box_at 0 (a ∷ b ∷ c ∷ d ∷ e ∷ f ∷ [])
@@ -54,13 +52,9 @@ pub taken_lines : Means "R 0003" (slip.Revoke 3)
 unfolding parse_line fields_slip letter_slip numbers fields decimal is_number value_after every
 taken_lines = (refl, refl, refl, refl)
 
-abbrev is_bad : Slip → Bool
-is_bad (slip.Grant number rank kind bounds) = false
-is_bad (slip.Revoke number) = false
-is_bad (slip.List bounds) = false
-is_bad (slip.Decide staff door quarter) = false
-is_bad slip.Count = false
-is_bad slip.Bad = true
+abbrev is_bad : Option Slip → Bool
+is_bad (Some slip) = false
+is_bad None = true
 
 abbrev bad_lines : List String
 bad_lines =
@@ -76,14 +70,14 @@ bad_lines_lem = refl
 abbrev grant_by : ℕ → Kind → Grant
 grant_by n k = record { number = n; rank = 0; kind = k; bounds = box_of 0 0 0 0 0 0 }
 
-pub marked-answers : (outcome_text outcome.Done ≡ ascii "ok\n")
-    × (outcome_text (outcome.Refused AlreadyLive) ≡ ascii "refused 5\n")
-    × (listed_text (listed.Count 2) (3 ∷ 7 ∷ 0 ∷ []) ≡ ascii "list 2 3 7\n")
-    × (listed_text (listed.Count 0) [] ≡ ascii "list 0\n")
-    × (decision_text (decision.Barred (grant_by 3 Bars)) ≡ ascii "barred 3\n")
-    × (decision_text decision.None ≡ ascii "none\n")
-    × (decision_text (decision.Opens (grant_by 7 Opens)) ≡ ascii "opens 7\n")
-    × (counted_text (counted.Cells 1 2047) ≡ ascii "count 1 2047\n")
+pub marked-answers : (outcome_text (Ok tt) ≡ ascii "ok\n")
+    × (outcome_text (Err AlreadyLive) ≡ ascii "refused 5\n")
+    × (listed_text (Ok 2) (3 ∷ 7 ∷ 0 ∷ []) ≡ ascii "list 2 3 7\n")
+    × (listed_text (Ok 0) [] ≡ ascii "list 0\n")
+    × (decision_text (Ok (decision.Barred (grant_by 3 Bars))) ≡ ascii "barred 3\n")
+    × (decision_text (Ok decision.None) ≡ ascii "none\n")
+    × (decision_text (Ok (decision.Opens (grant_by 7 Opens))) ≡ ascii "opens 7\n")
+    × (counted_text (Ok (record { live = 1; free = 2047 })) ≡ ascii "count 1 2047\n")
     × (bad_text ≡ ascii "bad\n")
 unfolding numeral digits_by each_after_blank
 marked-answers = (refl, refl, refl, refl, refl, refl, refl, refl, refl)

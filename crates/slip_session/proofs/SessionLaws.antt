@@ -6,7 +6,7 @@
 use Prim.Native.Nat.{ℕ}
 use mathlib.Core.Path.{◌≡◌, refl, ap, ap₂, ◌∙◌}
 use mathlib.Core.List.{List, [], ◌∷◌, ◌++◌}
-use mathlib.Core.Option.{Option, none, some}
+use Rattle.std.proofs.Common.{Option, None, Some}
 use Rattle.model.specs.Call.{Call}
 use Rattle.model.specs.Values.{CallFits}
 use Rattle.model.specs.Refusal.{Step}
@@ -30,8 +30,8 @@ module _ {W S : Type 0} (concrete : W → Call → Step W) (model : S → Call �
   line_refines w s lent line r = go (call_of (slip_of line) lent) (line-fits lent line)
     where
       go : (o : Option Call) → Fits o → LinesAgree R (call_step concrete w lent o) (call_step model s lent o)
-      go none fits = record { text = refl; lent = refl; related = r }
-      go (some c) fits =
+      go None fits = record { text = refl; lent = refl; related = r }
+      go (Some c) fits =
           let a = call-refines w s c fits r in
           record {
             text = ap (λ (t : Response). answer_text c t.answer (lent_after c lent t.lent)) a.same;

@@ -1,17 +1,18 @@
 -- What replaying does, over any state and any calls on it.
 --   LineResult                       what a line comes to: its call was made, with this answer; or it was a question, or no slip
---   entry_result entry            the same of an answer of `replay_line`, in document 01's numbers
+--   replay_result r                 the same of an answer of `replay_line`, in document 01's numbers
 --   JournalStep                the state after a line, and what it comes to
 --   journal_step step s line    of one line's bytes
 --   line_results step s lines        what each line of a journal comes to, each from the state that the one before left
 --   replayed step s lines      the state after the journal
 -- With index's words_step these are the code, with the model's book_step the plain book. Assumes nothing: these are definitions.
-use Rattle.std.specs.Prelude.{ℕ, List, [], ◌∷◌}
+use Rattle.std.specs.Prelude.{ℕ, List, [], ◌∷◌, Result, Ok, Err, ⊤}
 use Rattle.model.specs.Answer.{Answer, outcome_answer}
 use Rattle.model.specs.Call.{Call}
 use Rattle.model.specs.Refusal.{Step}
-use Rattle.slip_session.specs.declared.journal.Entry.{Entry}
-use Rattle.slip_session.specs.declared.journal.Entry.TheVariants as entry
+use Rattle.model.specs.declared.Fault.{Fault}
+use Rattle.slip_session.specs.declared.journal.NotReplayed.{NotReplayed}
+use Rattle.slip_session.specs.declared.journal.NotReplayed.TheVariants.{Question, NotASlip}
 use Rattle.slip_session.specs.Meaning.{Meaning, makes, asks, nothing, line_meaning}
 
 pub data LineResult : Type 0 where
@@ -19,10 +20,10 @@ pub data LineResult : Type 0 where
   question : LineResult
   no_slip : LineResult
 
-abbrev pub entry_result : Entry → LineResult
-entry_result (entry.Made outcome) = made (outcome_answer outcome)
-entry_result entry.Question = question
-entry_result entry.NotASlip = no_slip
+abbrev pub replay_result : Result (Result ⊤ Fault) NotReplayed → LineResult
+replay_result (Ok answer) = made (outcome_answer answer)
+replay_result (Err Question) = question
+replay_result (Err NotASlip) = no_slip
 
 pub record JournalStep (S : Type 0) : Type 0 where
   pub state : S

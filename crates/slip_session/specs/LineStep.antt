@@ -6,8 +6,7 @@
 --   line_step step s lent line        of one line's bytes, from the state s and the lent list as they are
 --   session_text step s lent lines    what a list of lines prints, each line's text after the one before
 -- With index's words_step these are the slip program, with the model's book_step the plain book. Assumes nothing: these are definitions.
-use Rattle.std.specs.Prelude.{ℕ, List, [], ◌∷◌, ◌++◌}
-use Rattle.std.proofs.Math.Option.{Option, none, some}
+use Rattle.std.specs.Prelude.{ℕ, List, [], ◌∷◌, ◌++◌, Option, None, Some}
 use Rattle.model.specs.Call.{Call, grant, revoke, list, decide, count}
 use Rattle.model.specs.Refusal.{Step}
 use Rattle.slip_session.specs.Text.{bad_text}
@@ -36,8 +35,8 @@ answered call lent r =
 module _ {S : Type 0} (step : S → Call → Step S) where
   -- a line that is no slip changes nothing
   abbrev pub call_step : S → List ℕ → Option Call → LineStep S
-  call_step s lent none = record { state = s; lent = lent; text = bad_text }
-  call_step s lent (some call) = answered call lent (step s call)
+  call_step s lent None = record { state = s; lent = lent; text = bad_text }
+  call_step s lent (Some call) = answered call lent (step s call)
 
   unfoldable pub line_step : S → List ℕ → List ℕ → LineStep S
   line_step s lent line = call_step s lent (call_of (slip_of line) lent)

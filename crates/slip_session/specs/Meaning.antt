@@ -1,10 +1,10 @@
 -- What a line is to a journal (document 01, "Marked cases": the slips). Grants and revokes change an index; list, decide and count ask.
 --   Meaning          a call to make, a question, or nothing
---   meaning_of slip   of a slip
+--   meaning_of slip   of a slip, or of a line that is none
 --   line_meaning line of a line's bytes, read as the slip program reads them
 --   calls_in lines    the calls of a journal, in its order; what is no call is left out
 -- Assumes nothing: these are definitions.
-use Rattle.std.specs.Prelude.{ℕ, List, [], ◌∷◌}
+use Rattle.std.specs.Prelude.{ℕ, List, [], ◌∷◌, Option, None, Some}
 use Rattle.model.specs.Call.{Call, request, grant, revoke}
 use Rattle.slip_session.specs.declared.Slip.{Slip}
 use Rattle.slip_session.specs.declared.Slip.TheVariants as slip
@@ -15,13 +15,13 @@ pub data Meaning : Type 0 where
   asks : Meaning
   nothing : Meaning
 
-abbrev pub meaning_of : Slip → Meaning
-meaning_of (slip.Grant number rank kind bounds) = makes (grant (request number rank kind bounds))
-meaning_of (slip.Revoke number) = makes (revoke number)
-meaning_of (slip.List bounds) = asks
-meaning_of (slip.Decide staff door quarter) = asks
-meaning_of slip.Count = asks
-meaning_of slip.Bad = nothing
+abbrev pub meaning_of : Option Slip → Meaning
+meaning_of (Some (slip.Grant number rank kind bounds)) = makes (grant (request number rank kind bounds))
+meaning_of (Some (slip.Revoke number)) = makes (revoke number)
+meaning_of (Some (slip.List bounds)) = asks
+meaning_of (Some (slip.Decide staff door quarter)) = asks
+meaning_of (Some slip.Count) = asks
+meaning_of None = nothing
 
 unfoldable pub line_meaning : List ℕ → Meaning
 line_meaning line = meaning_of (slip_of line)

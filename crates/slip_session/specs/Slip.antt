@@ -1,11 +1,10 @@
 -- The meaning of a line (document 01, "Marked cases": the slip program).
 --   grant_slip .. count_slip    the call of a letter's values
 --   letter_slip b fs       the call of the letter b with the fields fs after it
---   parse_line bs          the call of a line, without its newline; Bad for a line of any other form, an empty one too
+--   parse_line bs          the call of a line, without its newline; None for a line of any other form, an empty one too
 -- Assumes nothing: these are definitions.
-use Rattle.std.specs.Prelude.{ℕ, ◌+◌, cond, List, [], ◌∷◌, eqb, get_or}
+use Rattle.std.specs.Prelude.{ℕ, ◌+◌, cond, List, [], ◌∷◌, eqb, get_or, Option, None, Some}
 use Prim.Native.Char.{code}
-use Rattle.std.proofs.Math.Option.{Option, none, some}
 use Rattle.model.specs.declared.Box.{Box}
 use Rattle.slip_session.specs.declared.Slip.{Slip}
 use Rattle.slip_session.specs.declared.Slip.TheVariants as slip
@@ -56,25 +55,25 @@ decide_slip vs = slip.Decide (get_or vs 0 0) (get_or vs 1 0) (get_or vs 2 0)
 abbrev pub count_slip : List ℕ → Slip
 count_slip vs = slip.Count
 
--- the call that the values make, Bad where there are none
-abbrev pub slip_by : (List ℕ → Slip) → Option (List ℕ) → Slip
-slip_by call none = slip.Bad
-slip_by call (some vs) = call vs
+-- the call that the values make, None where there are none
+abbrev pub slip_by : (List ℕ → Slip) → Option (List ℕ) → Option Slip
+slip_by call None = None
+slip_by call (Some vs) = Some (call vs)
 
-unfoldable pub letter_slip : ℕ → List (List ℕ) → Slip
+unfoldable pub letter_slip : ℕ → List (List ℕ) → Option Slip
 letter_slip b fs =
     cond (eqb b (code "G")) (slip_by grant_slip (numbers grant_widths fs))
     (cond (eqb b (code "R")) (slip_by revoke_slip (numbers revoke_widths fs))
     (cond (eqb b (code "L")) (slip_by list_slip (numbers box_widths fs))
     (cond (eqb b (code "D")) (slip_by decide_slip (numbers decide_widths fs))
-    (cond (eqb b (code "C")) (slip_by count_slip (numbers [] fs)) slip.Bad))))
+    (cond (eqb b (code "C")) (slip_by count_slip (numbers [] fs)) None))))
 
 -- the first field is exactly one letter
-unfoldable pub fields_slip : List (List ℕ) → Slip
-fields_slip [] = slip.Bad
-fields_slip ([] ∷ fs) = slip.Bad
+unfoldable pub fields_slip : List (List ℕ) → Option Slip
+fields_slip [] = None
+fields_slip ([] ∷ fs) = None
 fields_slip ((b ∷ []) ∷ fs) = letter_slip b fs
-fields_slip ((b ∷ (c ∷ bs)) ∷ fs) = slip.Bad
+fields_slip ((b ∷ (c ∷ bs)) ∷ fs) = None
 
-unfoldable pub parse_line : List ℕ → Slip
+unfoldable pub parse_line : List ℕ → Option Slip
 parse_line bs = fields_slip (fields bs)

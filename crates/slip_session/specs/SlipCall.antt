@@ -2,17 +2,16 @@
 --   call_of slip lent     the call, with the lent list as it then is; none for a line that is no slip. L lists what touches its box
 --                        (document 02, card 4)
 -- Assumes nothing: this is a definition.
-use Rattle.std.specs.Prelude.{ℕ, List}
-use Rattle.std.proofs.Math.Option.{Option, none, some}
+use Rattle.std.specs.Prelude.{ℕ, List, Option, None, Some}
 use Rattle.model.specs.declared.Choice.TheVariants.{Touching}
 use Rattle.model.specs.Call.{Call, request, grant, revoke, list, decide, count}
 use Rattle.slip_session.specs.declared.Slip.{Slip}
 use Rattle.slip_session.specs.declared.Slip.TheVariants as slip
 
-abbrev pub call_of : Slip → List ℕ → Option Call
-call_of (slip.Grant number rank kind bounds) lent = some (grant (request number rank kind bounds))
-call_of (slip.Revoke number) lent = some (revoke number)
-call_of (slip.List bounds) lent = some (list bounds Touching lent)
-call_of (slip.Decide staff door quarter) lent = some (decide staff door quarter)
-call_of slip.Count lent = some count
-call_of slip.Bad lent = none
+abbrev pub call_of : Option Slip → List ℕ → Option Call
+call_of (Some (slip.Grant number rank kind bounds)) lent = Some (grant (request number rank kind bounds))
+call_of (Some (slip.Revoke number)) lent = Some (revoke number)
+call_of (Some (slip.List bounds)) lent = Some (list bounds Touching lent)
+call_of (Some (slip.Decide staff door quarter)) lent = Some (decide staff door quarter)
+call_of (Some slip.Count) lent = Some count
+call_of None lent = None

@@ -8,17 +8,12 @@
 --   decision_text d          for what decide answers
 --   counted_text a           for what count answers
 -- Assumes nothing: these are definitions.
-use Rattle.std.specs.Prelude.{ℕ, List, [], ◌∷◌, ◌++◌, take}
+use Rattle.std.specs.Prelude.{ℕ, List, [], ◌∷◌, ◌++◌, take, Result, Ok, Err, ⊤}
 use Rattle.model.specs.Fault.{fault_number}
 use Rattle.model.specs.declared.Fault.{Fault}
-use Rattle.model.specs.declared.Outcome.{Outcome}
-use Rattle.model.specs.declared.Outcome.TheVariants as outcome
-use Rattle.model.specs.declared.Listed.{Listed}
-use Rattle.model.specs.declared.Listed.TheVariants as listed
+use Rattle.model.specs.declared.Cells.{Cells}
 use Rattle.model.specs.declared.Decision.{Decision}
 use Rattle.model.specs.declared.Decision.TheVariants as decision
-use Rattle.model.specs.declared.Counted.{Counted}
-use Rattle.model.specs.declared.Counted.TheVariants as counted
 use Rattle.text.specs.Ascii.{ascii, blank, line}
 use Rattle.text.specs.Numeral.{numeral}
 
@@ -55,20 +50,20 @@ bad_text = line (ascii "bad")
 abbrev pub refusal_text : Fault → List ℕ
 refusal_text f = refused_text (fault_number f)
 
-abbrev pub outcome_text : Outcome → List ℕ
-outcome_text outcome.Done = ok_text
-outcome_text (outcome.Refused f) = refusal_text f
+abbrev pub outcome_text : Result ⊤ Fault → List ℕ
+outcome_text (Ok done) = ok_text
+outcome_text (Err f) = refusal_text f
 
-abbrev pub listed_text : Listed → List ℕ → List ℕ
-listed_text (listed.Count n) lent = list_text n lent
-listed_text (listed.Refused f) lent = refusal_text f
+abbrev pub listed_text : Result ℕ Fault → List ℕ → List ℕ
+listed_text (Ok n) lent = list_text n lent
+listed_text (Err f) lent = refusal_text f
 
-abbrev pub decision_text : Decision → List ℕ
-decision_text (decision.Opens g) = opens_text g.number
-decision_text (decision.Barred g) = barred_text g.number
-decision_text decision.None = none_text
-decision_text (decision.Refused f) = refusal_text f
+abbrev pub decision_text : Result Decision Fault → List ℕ
+decision_text (Ok (decision.Opens g)) = opens_text g.number
+decision_text (Ok (decision.Barred g)) = barred_text g.number
+decision_text (Ok decision.None) = none_text
+decision_text (Err f) = refusal_text f
 
-abbrev pub counted_text : Counted → List ℕ
-counted_text (counted.Cells live free) = count_text live free
-counted_text (counted.Refused f) = refusal_text f
+abbrev pub counted_text : Result Cells Fault → List ℕ
+counted_text (Ok c) = count_text c.live c.free
+counted_text (Err f) = refusal_text f

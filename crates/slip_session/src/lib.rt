@@ -2,8 +2,6 @@
 // journal's line replayed, and the slip program as one function.
 #![tactic(auto)]
 
-ghost use Rattle.std.specs.Prelude.{take};
-ghost use Rattle.text.specs.Put.{Counts};
 ghost use Rattle.calls.specs.Calls.{words_step};
 ghost use Rattle.slip_session.specs.LineStep.{line_step};
 ghost use Rattle.slip_session.specs.Contract.{Prints};
@@ -13,10 +11,11 @@ pub mod parsing;
 pub mod printing;
 pub mod program;
 
-use crate::parsing::parse;
+use crate::parsing::slip_of;
 use crate::printing::{
     LINE_BYTES, print_bad, print_counted, print_decision, print_listed, print_outcome,
 };
+use arrayvec::ArrayVec;
 use index::grant::grant;
 use index::revoke::revoke;
 use model::{Box, Choice};
@@ -41,40 +40,35 @@ pub enum Slip {
         quarter: u16,
     },
     Count,
-    Bad,
 }
 
 // A line of more bytes than this is of another form, whatever it holds.
 pub const LONGEST: usize = 4096;
 
-// Makes the call that the line stands for, and prints its answer: how many bytes of `out` it takes.
-pub fn answer(pool: &mut [u16], lent: &mut [u16], line: &[u8], out: &mut [u8; LINE_BYTES]) -> usize
-    ensures prints { Prints pool.new lent.new (take result out.new)
-        (line_step words_step pool.old lent.old line.now) }
-    ensures counts { Counts result out.new }
+// Makes the call that the line stands for, and prints its answer.
+pub fn answer(pool: &mut [u16], lent: &mut [u16], line: &[u8]) -> ArrayVec<u8, LINE_BYTES>
+    ensures { Prints pool.new lent.new result.items (line_step words_step pool.old lent.old line.now) }
 {
-    if LONGEST < line.len() {
-        return print_bad(out);
-    }
-    let slip = parse(line);
+    let Some(slip) = slip_of(line) else {
+        return print_bad();
+    };
     match slip {
         Slip::Grant {
             number,
             rank,
             kind,
             bounds,
-        } => { print_outcome(grant(pool, number, rank, kind, bounds), out) }
-        Slip::Revoke(number) => print_outcome(revoke(pool, number), out),
+        } => print_outcome(grant(pool, number, rank, kind, bounds)),
+        Slip::Revoke(number) => print_outcome(revoke(pool, number)),
         Slip::List(bounds) => {
             let listed = list(pool, bounds, Choice::Touching, lent);
-            print_listed(listed, lent, out)
+            print_listed(listed, lent)
         }
         Slip::Decide {
             staff,
             door,
             quarter,
-        } => print_decision(decide(pool, staff, door, quarter), out),
-        Slip::Count => print_counted(count(pool), out),
-        Slip::Bad => print_bad(out),
+        } => print_decision(decide(pool, staff, door, quarter)),
+        Slip::Count => print_counted(count(pool)),
     }
 }

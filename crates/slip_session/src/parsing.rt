@@ -1,15 +1,14 @@
 // Reads a line as a call (document 01, "Marked cases"; specs/Slip): its letter, then its numbers, a field at a time.
-ghost use Rattle.std.specs.Prelude.{◌≡◌, [], ◌<◌, ◌≤◌, length, get_or};
-ghost use Rattle.slip_session.specs.Slip.{grant_widths, revoke_widths, box_widths, decide_widths, box_at};
-ghost use Rattle.slip_session.specs.Slip.{grant_slip, revoke_slip, list_slip, decide_slip, count_slip};
-ghost use Rattle.slip_session.specs.Slip.{slip_by, letter_slip, parse_line};
+ghost use Rattle.std.specs.Prelude.{◌≡◌, [], ◌∷◌};
+ghost use Rattle.slip_session.specs.Slip.{box_at, grant_widths, grant_slip, slip_by, letter_slip, parse_line};
+ghost use Rattle.slip_session.specs.Longest.{slip_of};
 ghost use Rattle.text.specs.Numbers.{numbers};
 ghost use Rattle.text.specs.Scan.{fields_from};
 
-use crate::Slip;
+use crate::{LONGEST, Slip};
 use model::Box;
 use text::Width;
-use text::reading::{WORDS, read_numbers};
+use text::reading::read_numbers;
 
 const BLANK: u8 = b' ';
 
@@ -28,112 +27,88 @@ const GRANT: [Width; 9] = [
     Width::Word,
 ];
 
-// The box of the six values from a place on.
-fn box_at(values: [u16; 9], k: usize) -> Box
-    requires { k ≤ 3 }
-    ensures { result ≡ box_at k values }
+fn box_of(values: [u16; 6]) -> Box
+    ensures { result ≡ box_at 0 values }
 {
+    let [
+        staff_from,
+        staff_to,
+        door_from,
+        door_to,
+        quarter_from,
+        quarter_to,
+    ] = values;
     Box {
-        staff_from: values[k],
-        staff_to: values[k + 1],
-        door_from: values[k + 2],
-        door_to: values[k + 3],
-        quarter_from: values[k + 4],
-        quarter_to: values[k + 5],
+        staff_from,
+        staff_to,
+        door_from,
+        door_to,
+        quarter_from,
+        quarter_to,
     }
 }
 
-fn grant_slip(line: &[u8]) -> Slip
+// The six numbers after the kind are the box.
+fn grant_slip(line: &[u8]) -> Option<Slip>
     ensures { result ≡ slip_by grant_slip (numbers grant_widths (fields_from line.now 2)) }
 {
-    let n = read_numbers(line, NUMBERS, GRANT, 9);
-    if !n.good {
-        return Slip::Bad;
-    }
-    let v = n.values;
-    Slip::Grant {
-        number: v[0],
-        rank: v[1] as u8,
-        kind: v[2] as u8,
-        bounds: box_at(v, 3),
-    }
+    let [number, rank, kind, a, b, c, d, e, f] = read_numbers(line, NUMBERS, GRANT)?;
+    Some(Slip::Grant {
+        number,
+        rank: rank as u8,
+        kind: kind as u8,
+        bounds: box_of([a, b, c, d, e, f]),
+    })
 }
 
-fn revoke_slip(line: &[u8]) -> Slip
-    ensures { result ≡ slip_by revoke_slip (numbers revoke_widths (fields_from line.now 2)) }
+// The call of a letter with the numbers that follow it.
+#[tactic(auto, unfolding(crate::specs::Slip::letter_slip))]
+fn by_letter(letter: u8, line: &[u8]) -> Option<Slip>
+    ensures { result ≡ letter_slip letter (fields_from line.now 2) }
 {
-    let n = read_numbers(line, NUMBERS, WORDS, 1);
-    if !n.good {
-        return Slip::Bad;
-    }
-    let v = n.values;
-    Slip::Revoke(v[0])
-}
-
-fn list_slip(line: &[u8]) -> Slip
-    ensures { result ≡ slip_by list_slip (numbers box_widths (fields_from line.now 2)) }
-{
-    let n = read_numbers(line, NUMBERS, WORDS, 6);
-    if !n.good {
-        return Slip::Bad;
-    }
-    let v = n.values;
-    Slip::List(box_at(v, 0))
-}
-
-fn decide_slip(line: &[u8]) -> Slip
-    ensures { result ≡ slip_by decide_slip (numbers decide_widths (fields_from line.now 2)) }
-{
-    let n = read_numbers(line, NUMBERS, WORDS, 3);
-    if !n.good {
-        return Slip::Bad;
-    }
-    let v = n.values;
-    Slip::Decide {
-        staff: v[0],
-        door: v[1],
-        quarter: v[2],
-    }
-}
-
-fn count_slip(line: &[u8]) -> Slip
-    ensures { result ≡ slip_by count_slip (numbers [] (fields_from line.now 2)) }
-{
-    let n = read_numbers(line, NUMBERS, WORDS, 0);
-    if !n.good {
-        return Slip::Bad;
-    }
-    Slip::Count
-}
-
-// The call of a line whose first field is its first byte.
-fn by_letter(line: &[u8]) -> Slip
-    requires { 0 < length line.now }
-    ensures { result ≡ letter_slip (get_or line.now 0 0) (fields_from line.now 2) }
-{
-    let letter = line[0];
     match letter {
         b'G' => grant_slip(line),
-        b'R' => revoke_slip(line),
-        b'L' => list_slip(line),
-        b'D' => decide_slip(line),
-        b'C' => count_slip(line),
-        _ => Slip::Bad,
+        b'R' => {
+            let [number] = read_numbers(line, NUMBERS, [Width::Word])?;
+            Some(Slip::Revoke(number))
+        }
+        b'L' => {
+            let bounds = read_numbers(line, NUMBERS, [Width::Word; 6])?;
+            Some(Slip::List(box_of(bounds)))
+        }
+        b'D' => {
+            let [staff, door, quarter] = read_numbers(line, NUMBERS, [Width::Word; 3])?;
+            Some(Slip::Decide {
+                staff,
+                door,
+                quarter,
+            })
+        }
+        b'C' => {
+            let [] = read_numbers(line, NUMBERS, [])?;
+            Some(Slip::Count)
+        }
+        _ => None,
     }
 }
 
 // The call of a line, which is given without its newline.
-pub fn parse(line: &[u8]) -> Slip
+#[tactic(auto, using(crate::proofs::SlipLaws::empty, crate::proofs::SlipLaws::single, crate::proofs::SlipLaws::joined, crate::proofs::SlipLaws::parted))]
+pub fn parse(line: &[u8]) -> Option<Slip>
     ensures { result ≡ parse_line line.now }
 {
-    if line.len() == 0 {
-        return Slip::Bad;
+    if line.is_empty() || 1 < line.len() && line[1] != BLANK {
+        return None;
     }
-    if line.len() == 1 {
-        return by_letter(line);
+    by_letter(line[0], line)
+}
+
+// The same; a line longer than any slip is none.
+pub fn slip_of(line: &[u8]) -> Option<Slip>
+    ensures { result ≡ slip_of line.now }
+{
+    if LONGEST < line.len() {
+        return None;
     }
-    if line[1] != BLANK {
-        return Slip::Bad;
-    }
-    by_letter(line)
+    parse(line)
 }

@@ -6,14 +6,17 @@ use console::arguments::given;
 use console::output::warn;
 use console::status::{Ending, tell};
 
-fn main(rt: HostRuntime) {
+fn run(rt: HostRuntime) -> Ending {
     if 0 < given(rt) {
         warn(
             rt,
             b"grants: slips reads standard input and takes no name: type slips < FILE\n",
         );
-        tell(rt, Ending::Failed);
-        return;
+        return Ending::Failed;
     }
-    tell(rt, slip_session::program::run(rt));
+    slip_session::program::run(rt)
+}
+
+fn main(rt: HostRuntime) {
+    tell(rt, run(rt));
 }

@@ -6,8 +6,8 @@
 --   InsertionPlanned causes w r p    p refuses by these causes, or says where the requested grant hangs
 --   SlotPlanned w r p                the same by `slot_order`'s causes
 -- Assumes nothing: these are definitions.
-use Rattle.std.specs.Prelude.{ℕ, ◌≡◌, ◌||◌, List, [], ◌∷◌}
-use Rattle.std.proofs.Math.Option.{none, some}
+use Rattle.std.specs.Prelude.{ℕ, ◌≡◌, ◌||◌, List, [], ◌∷◌, None, Some, Result, Ok, Err}
+use Rattle.model.specs.declared.Fault.{Fault}
 use Rattle.model.specs.declared.Fault.TheVariants.{BrokenLinks, Full}
 use Rattle.model.specs.declared.Grant.{Grant}
 use Rattle.model.specs.Refusal.{Cause, ◌if◌, first_fault, refusing}
@@ -19,7 +19,6 @@ use Rattle.calls.specs.Walks.{insertion_walk}
 use Rattle.calls.specs.Causes.{no_free_cell, insertion_broken}
 use Rattle.calls.specs.Calls.{granted_words}
 use Rattle.steps.specs.declared.insertion.Insertion.{Insertion}
-use Rattle.steps.specs.declared.insertion.Insertion.TheVariants as insertion
 
 unfoldable pub slot_order : List ℕ → Request → List Cause
 slot_order w r = BrokenLinks if (insertion_broken (insertion_walk w r) || free_broken w) ∷ Full if no_free_cell w ∷ []
@@ -33,14 +32,14 @@ added_all w [] = w
 added_all w (g ∷ gs) = added_all (added w (request_of g)) gs
 
 -- no cause is left, the way down ends at the link's place, a link of the parent's, and the free head's cell can hang there
-pub record Insertable (causes : List Cause) (w : List ℕ) (r : Request) (link parent free next : ℕ) : Type 0 where
-  pub passes : first_fault causes ≡ none
-  pub way : insertion_walk w r ≡ blank_at link parent
-  pub slot : FreeSlot w link free next
+pub record Insertable (causes : List Cause) (w : List ℕ) (r : Request) (p : Insertion) : Type 0 where
+  pub passes : first_fault causes ≡ None
+  pub way : insertion_walk w r ≡ blank_at p.link p.parent
+  pub slot : FreeSlot w p.link p.free p.next
 
-unfoldable pub InsertionPlanned : List Cause → List ℕ → Request → Insertion → Type 0
-InsertionPlanned causes w r (insertion.Refused f) = first_fault causes ≡ some f
-InsertionPlanned causes w r (insertion.At link parent free next) = Insertable causes w r link parent free next
+unfoldable pub InsertionPlanned : List Cause → List ℕ → Request → Result Insertion Fault → Type 0
+InsertionPlanned causes w r (Err f) = first_fault causes ≡ Some f
+InsertionPlanned causes w r (Ok p) = Insertable causes w r p
 
-abbrev pub SlotPlanned : List ℕ → Request → Insertion → Type 0
+abbrev pub SlotPlanned : List ℕ → Request → Result Insertion Fault → Type 0
 SlotPlanned w r = InsertionPlanned (slot_order w r) w r

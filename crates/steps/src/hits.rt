@@ -2,35 +2,27 @@
 ghost use Rattle.adt.specs.Predicate.{test_of};
 ghost use Rattle.steps.specs.Hits.{Searchable, BoxSearchable, HitsFound, TakenFound};
 
+use adt::Broken;
 use adt::predicates::Predicate;
-use adt::search::{COUNTER_PLACES, FOUND, HitCells, search};
+use adt::search::{Counters, HitCells, search};
 use geometry::range::range_of_box;
 use geometry::region::Region;
 use model::{Box, Choice};
 
-// A search that met a cause of fault 9, or how many hits it left.
-#[derive(Clone, Copy)]
-pub enum Hits {
-    Broken,
-    Found(usize),
-}
-
-// Leaves the cells of the hits in `hits`, in the order of the search.
+// Leaves the cells of the hits at the start of `hits`, in the order of the search, and says how many there are.
 pub fn find_hits(
     pool: &[u16],
     cells: usize,
     range: &Region,
     predicate: Predicate,
     hits: &mut HitCells,
-) -> Hits
+) -> Result<usize, Broken>
     requires { Searchable pool.now cells range.now hits.old }
     ensures { HitsFound pool.now range.now (test_of predicate range.now) hits.new result }
 {
-    let mut counters = [0usize; COUNTER_PLACES];
-    if !search(pool, cells, range, predicate, hits, &mut counters) {
-        return Hits::Broken;
-    }
-    Hits::Found(counters[FOUND])
+    let mut counters = Counters::default();
+    search(pool, cells, range, predicate, hits, &mut counters)?;
+    Ok(counters.found)
 }
 
 // The search of a box, for the cells that a choice takes.
@@ -40,7 +32,7 @@ pub fn find_taken(
     bounds: Box,
     choice: Choice,
     hits: &mut HitCells,
-) -> Hits
+) -> Result<usize, Broken>
     requires { BoxSearchable pool.now cells bounds hits.old }
     ensures { TakenFound pool.now bounds choice hits.new result }
 {

@@ -3,5 +3,4 @@ pub mod FieldLaws
 pub mod FieldSteps
 pub mod NumberSteps
 pub mod NumeralLaws
-pub mod PutLaws
 pub mod ColumnLaws

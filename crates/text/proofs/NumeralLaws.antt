@@ -1,6 +1,5 @@
 -- The digits of a number.
 --   numeral-digit, numeral_more   a number below ten is one digit; any other is the digits of its tenth part and its last digit
---   length-numeral-..             how many there are then
 --   numeral_induct                induction by that
 --   numeral-few                   a number below 10 ^ k has at most k digits
 --   value-numeral                 the value of a number's digits is the number
@@ -11,7 +10,7 @@ use Prim.Native.Nat.{ℕ, zero, suc, ◌+◌, ◌-◌, ◌*◌, ◌/◌, ◌%◌
 use mathlib.Core.Path.{◌≡◌, refl, sym, ap, ◌∙◌}
 use mathlib.Core.Bool.{Bool, true, false, ◌&&◌, false≢true}
 use mathlib.Core.List.{List, [], ◌∷◌, ◌++◌}
-use mathlib.Core.Option.{some}
+use Rattle.std.proofs.Common.{Some}
 use native.Mathlib.Decide.{dec_lt}
 use native.Mathlib.Nat.{pow-suc, div-lt_iff_lt-mul}
 use native.Mathlib.Omega.{arith}
@@ -50,10 +49,10 @@ pub numeral_more : (n : ℕ) → 10 ≤ n → numeral n ≡ numeral (n / 10) ++ 
 unfolding numeral
 numeral_more n h = digits_more n n h ∙ rw (digits_enough n (suc (n / 10)) (n / 10) (omega arith) (omega arith))
 
-pub length-numeral-digit : (n : ℕ) → n < 10 → length (numeral n) ≡ 1
+length-numeral-digit : (n : ℕ) → n < 10 → length (numeral n) ≡ 1
 length-numeral-digit n h = ap length (numeral-digit n h)
 
-pub length-numeral_more : (n : ℕ) → 10 ≤ n → length (numeral n) ≡ length (numeral (n / 10)) + 1
+length-numeral_more : (n : ℕ) → 10 ≤ n → length (numeral n) ≡ length (numeral (n / 10)) + 1
 length-numeral_more n h = ap length (numeral_more n h) ∙ length-append (numeral (n / 10)) (digit (n % 10) ∷ [])
 
 -- what holds of one digit, and of a number where it holds of its tenth part, holds of every number
@@ -120,6 +119,6 @@ number-numeral n =
     (λ m h e. number_snoc (numeral (m / 10)) (digit (m % 10)) e (digit-digit (m % 10) (omega arith)))
     n
 
-pub decimal-numeral : (values n : ℕ) → n < values → decimal values (numeral n) ≡ some n
+pub decimal-numeral : (values n : ℕ) → n < values → decimal values (numeral n) ≡ Some n
 unfolding decimal
 decimal-numeral values n h = rw (number-numeral n, value-numeral n, lt-ltb n values h)

@@ -4,9 +4,8 @@
 --   value_after v bs     the number that goes on from v with the digits bs
 --   decimal values bs   the field's value, if it is a number below `values`
 -- Document 01 leaves leading zeros open: any number of them is allowed, so 007 is 7. Assumes nothing: these are definitions.
-use Rattle.std.specs.Prelude.{ℕ, ◌+◌, ◌-◌, ◌*◌, Bool, false, cond, ◌&&◌, List, [], ◌∷◌, leb, ltb}
+use Rattle.std.specs.Prelude.{ℕ, ◌+◌, ◌-◌, ◌*◌, Bool, false, cond, ◌&&◌, List, [], ◌∷◌, leb, ltb, Option, None, Some}
 use Prim.Native.Char.{code}
-use Rattle.std.proofs.Math.Option.{Option, none, some}
 use Rattle.lists.specs.Tests.{every}
 
 -- the byte of the digit 0
@@ -28,4 +27,4 @@ value_after v [] = v
 value_after v (b ∷ bs) = value_after (v * 10 + (b - zero_digit)) bs
 
 unfoldable pub decimal : ℕ → List ℕ → Option ℕ
-decimal values bs = cond (is_number bs && ltb (value_after 0 bs) values) (some (value_after 0 bs)) none
+decimal values bs = cond (is_number bs && ltb (value_after 0 bs) values) (Some (value_after 0 bs)) None

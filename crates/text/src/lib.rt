@@ -1,4 +1,4 @@
-// Text in bytes, for everything that reads a line or prints one: numerals, decimal fields, bytes put at a place, columns.
+// Text in bytes, for everything that reads a line or prints one: numerals, decimal fields, text put at the end of a line, columns.
 // Nothing here knows of a grant, and nothing is refused.
 #![tactic(auto)]
 
@@ -11,18 +11,4 @@ pub mod reading;
 pub enum Width {
     Byte,
     Word,
-}
-
-// What a field of a line is: a number, with the place after the byte that ends it, or no number that fits.
-#[derive(Clone, Copy)]
-pub enum FieldRead {
-    Number { value: u16, next: usize },
-    Bad,
-}
-
-// The numbers of a line, from the first place on; `good` if each field was one and there were as many as were asked for.
-#[derive(Clone, Copy)]
-pub struct Numbers {
-    pub good: bool,
-    pub values: [u16; 9],
 }

@@ -1,47 +1,56 @@
-// Bytes put at a place of a line, after what stands before it (specs/Put). Each function answers the next place.
-ghost use Rattle.std.specs.Prelude.{[], ◌∷◌, ◌+◌, ◌<◌, ◌≤◌, length};
+// Text put at the end of a line of fixed capacity: a byte, a text, a number.
+ghost use Rattle.std.specs.Prelude.{◌≡◌, [], ◌∷◌, ◌++◌, ◌+◌, ◌<◌, ◌≤◌, length};
+ghost use Rattle.arrayvec.specs.ArrayVec.{array_vec_len};
 ghost use Rattle.text.specs.Numeral.{numeral, numbered, max_digits};
-ghost use Rattle.text.specs.Put.{Put};
 
-// Puts a byte at a place of the line, and answers the next place.
-pub fn put_byte(out: &mut [u8], at: usize, b: u8) -> usize
-    requires { at < length out.old }
-    ensures { Put out.old at (b ∷ []) result out.new }
+use arrayvec::ArrayVec;
+
+// A number of 64 bits has no more digits.
+const MAX_DIGITS: usize = 20;
+
+pub fn put_byte<const N: usize>(line: &mut ArrayVec<u8, N>, b: u8)
+    requires { array_vec_len line.old < N }
+    ensures items { line.new.items ≡ line.old.items ++ b ∷ [] }
+    ensures len { array_vec_len line.new ≡ array_vec_len line.old + 1 }
 {
-    out[at] = b;
-    at + 1
+    line.push(b);
 }
 
-pub fn put_text(out: &mut [u8], at: usize, text: &[u8]) -> usize
-    requires { at + length text.now ≤ length out.old }
-    ensures { Put out.old at text.now result out.new }
+pub fn put_text<const N: usize>(line: &mut ArrayVec<u8, N>, text: &[u8])
+    requires { array_vec_len line.old + length text.now ≤ N }
+    ensures items { line.new.items ≡ line.old.items ++ text.now }
+    ensures len { array_vec_len line.new ≡ array_vec_len line.old + length text.now }
 {
-    let mut i = 0;
-    while i < text.len() {
-        out[at + i] = text[i];
-        i += 1;
-    }
-    at + i
+    line.try_extend_from_slice(text).unwrap();
 }
 
-// Puts a number in decimal: all digits but the last, then the last.
-pub fn put_number(out: &mut [u8], at: usize, n: usize) -> usize
-    requires { at + length (numeral n) ≤ length out.old }
-    ensures { Put out.old at (numeral n) result out.new }
+// A number in decimal: all digits but the last, then the last.
+pub fn numeral(n: usize) -> ArrayVec<u8, MAX_DIGITS>
+    ensures { result.items ≡ numeral n }
 {
-    if n < 10 {
-        return put_byte(out, at, b'0' + n as u8);
-    }
-    let next = put_number(out, at, n / 10);
-    put_byte(out, next, b'0' + (n % 10) as u8)
+    let mut digits = if n < 10 {
+        ArrayVec::new()
+    } else {
+        numeral(n / 10)
+    };
+    digits.push(b'0' + (n % 10) as u8);
+    digits
+}
+
+pub fn put_number<const N: usize>(line: &mut ArrayVec<u8, N>, n: usize)
+    requires { array_vec_len line.old + length (numeral n) ≤ N }
+    ensures items { line.new.items ≡ line.old.items ++ numeral n }
+    ensures len { array_vec_len line.new ≡ array_vec_len line.old + length (numeral n) }
+{
+    put_text(line, numeral(n).as_slice());
 }
 
 // Puts a text and a number behind it.
-pub fn put_numbered(out: &mut [u8], at: usize, text: &[u8], n: usize) -> usize
-    requires { at + length text.now + max_digits ≤ length out.old }
-    ensures { Put out.old at (numbered text.now n) result out.new
-        × (result ≤ at + length text.now + max_digits) }
+pub fn put_numbered<const N: usize>(line: &mut ArrayVec<u8, N>, text: &[u8], n: usize)
+    requires { array_vec_len line.old + length text.now + max_digits ≤ N }
+    ensures items { line.new.items ≡ line.old.items ++ numbered text.now n }
+    ensures len { array_vec_len line.new ≤ array_vec_len line.old + length text.now + max_digits }
 {
-    let next = put_text(out, at, text);
-    put_number(out, next, n)
+    put_text(line, text);
+    put_number(line, n);
 }

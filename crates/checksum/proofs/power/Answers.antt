@@ -6,8 +6,8 @@ use Rattle.checksum.proofs.power.Goals as goal
 
 pub returns-then-exponent-lt-ENTRIES : goal.returns-then-exponent-lt-ENTRIES
 returns-then-exponent-lt-ENTRIES c =
-    c.wide.ensures.0 ∙ table_powers c.args.powers.now c.args.exponent c.requires.0 (omega arith)
+    c.from.ensures ∙ table_powers c.args.powers.now c.args.exponent c.requires.0 (omega arith)
 
 pub returns : goal.returns
 returns c =
-    rw c.wide-2.ensures.0 (last_power c.args.powers.now c.args.exponent c.requires.0 (omega arith) c.requires.1)
+    rw c.from-2.ensures (last_power c.args.powers.now c.args.exponent c.requires.0 (omega arith) c.requires.1)

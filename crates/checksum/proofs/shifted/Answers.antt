@@ -1,14 +1,8 @@
 -- `shifted` meets its contract. Assumes nothing.
 use Prim.Native.Nat.{◌^◌}
-use native.Mathlib.Omega.{arith}
 use Rattle.checksum.proofs.ChecksumLaws.{mul_mod}
 use Rattle.checksum.proofs.SumLaws.{shift_lt}
 use Rattle.checksum.proofs.shifted.Goals as goal
-
-pub overflow_mul-result : goal.overflow_mul-result
-overflow_mul-result c =
-    let small = shift_lt c.args.remainder c.power.result c.args.places c.requires.reduced c.power.ensures in
-    record { fits = omega (arith, small) }
 
 pub returns : goal.returns
 returns c = (

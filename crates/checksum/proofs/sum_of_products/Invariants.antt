@@ -8,10 +8,5 @@ use Rattle.checksum.proofs.sum_of_products.Given as goal
 
 abbrev pub invariant-loop-at : goal.invariant-loop-at
 invariant-loop-at l =
-    (l.at ≤ length l.bytes)
-    × (l.exponent + l.at ≡ length l.bytes + l.behind)
-    × (l.sum ≤ l.at * most_product)
-    × (l.sum % modulus ≡ base256 0 (take l.at l.bytes) * 256 ^ l.exponent % modulus)
-
-abbrev pub decreases-loop-at : goal.decreases-loop-at
-decreases-loop-at l = length l.bytes - l.at
+    (l.sum ≤ l.at * most_product)
+    × (l.sum % modulus ≡ base256 0 (take l.at l.bytes) * 256 ^ (length l.bytes + l.behind - l.at) % modulus)

@@ -1,7 +1,7 @@
 -- `node::in_range` meets its contract, comparison by comparison. Assumes nothing.
 use lib.Dec.{lit<}
 use native.Mathlib.Omega.{arith}
-use mathlib.Core.Path.{refl, sym, ◌∙◌}
+use mathlib.Core.Path.{refl, sym}
 use Rattle.geometry.specs.Point.{point_of}
 use Rattle.geometry.proofs.SearchRangeLaws.{hit_axes}
 use Rattle.pool.specs.Cell.{grant_at}
@@ -21,28 +21,25 @@ pub returns-then-range-field : goal.returns-then-range-field
 unfolding point_of grant_at
 returns-then-range-field c = beyond _ _ 0 (lit< tt) c.field.ensures c.if-range-field.true
 
-pub returns-then-wide : goal.returns-then-wide
+pub returns-then-field-range : goal.returns-then-field-range
 unfolding point_of grant_at
-returns-then-wide c =
-    short _ _ 3 (lit< tt) (c.wide.ensures.0 ∙ c.field-2.ensures) c.wide-2.ensures.0 c.if-wide.true
+returns-then-field-range c = short _ _ 3 (lit< tt) c.field-2.ensures refl c.if-field-range.true
 
 pub returns-then-range-field-2 : goal.returns-then-range-field-2
 unfolding point_of grant_at
 returns-then-range-field-2 c = beyond _ _ 1 (lit< tt) c.field-3.ensures c.if-range-field-2.true
 
-pub returns-then-wide-2 : goal.returns-then-wide-2
+pub returns-then-field-range-2 : goal.returns-then-field-range-2
 unfolding point_of grant_at
-returns-then-wide-2 c =
-    short _ _ 4 (lit< tt) (c.wide-3.ensures.0 ∙ c.field-4.ensures) c.wide-4.ensures.0 c.if-wide-2.true
+returns-then-field-range-2 c = short _ _ 4 (lit< tt) c.field-4.ensures refl c.if-field-range-2.true
 
 pub returns-then-range-field-3 : goal.returns-then-range-field-3
 unfolding point_of grant_at
 returns-then-range-field-3 c = beyond _ _ 2 (lit< tt) c.field-5.ensures c.if-range-field-3.true
 
-pub returns-then-wide-3 : goal.returns-then-wide-3
+pub returns-then-field-range-3 : goal.returns-then-field-range-3
 unfolding point_of grant_at
-returns-then-wide-3 c =
-    short _ _ 5 (lit< tt) (c.wide-5.ensures.0 ∙ c.field-6.ensures) c.wide-6.ensures.0 c.if-wide-3.true
+returns-then-field-range-3 c = short _ _ 5 (lit< tt) c.field-6.ensures refl c.if-field-range-3.true
 
 pub returns : goal.returns
 unfolding point_of grant_at
@@ -53,9 +50,9 @@ returns c =
     (omega (arith, c.if-range-field.false, c.field.ensures))
     (omega (arith, c.if-range-field-2.false, c.field-3.ensures))
     (omega (arith, c.if-range-field-3.false, c.field-5.ensures))
-    (omega (arith, c.if-wide.false, c.wide.ensures.0, c.field-2.ensures, c.wide-2.ensures.0))
-    (omega (arith, c.wide.ensures, c.field-2.ensures))
-    (omega (arith, c.if-wide-2.false, c.wide-3.ensures.0, c.field-4.ensures, c.wide-4.ensures.0))
-    (omega (arith, c.wide-3.ensures, c.field-4.ensures))
-    (omega (arith, c.if-wide-3.false, c.wide-5.ensures.0, c.field-6.ensures, c.wide-6.ensures.0))
-    (omega (arith, c.wide-5.ensures, c.field-6.ensures)))
+    (omega (arith, c.if-field-range.false, c.field-2.ensures))
+    (omega (arith, c.field-2.type_inv, c.field-2.ensures))
+    (omega (arith, c.if-field-range-2.false, c.field-4.ensures))
+    (omega (arith, c.field-4.type_inv, c.field-4.ensures))
+    (omega (arith, c.if-field-range-3.false, c.field-6.ensures))
+    (omega (arith, c.field-6.type_inv, c.field-6.ensures)))

@@ -8,21 +8,20 @@ use Rattle.adt.proofs.search.search.Goals as goal
 
 pub returns-then-root-eq0 : goal.returns-then-root-eq0
 returns-then-root-eq0 c =
-    search-blank _ _ c.requires.0 _ c.wide-root.ensures.0 c.if-root-eq0.true
+    search-blank _ _ c.requires.0 _ c.from-root.ensures c.if-root-eq0.true
 
 pub returns-then-not-meets_range : goal.returns-then-not-meets_range
 returns-then-not-meets_range c =
     let root = ap (λ (g : Region). meets g c.args.range.now) (sym c.root_region-region.ensures) in
     let m = root ∙ sym c.meets_range.ensures ∙ c.if-not-meets_range.true in
-    search-apart _ _ c.requires.0 _ c.wide-root.ensures.0 c.if-root-eq0.false m
+    search-apart _ _ c.requires.0 _ c.from-root.ensures c.if-root-eq0.false m
 
 pub enter-requires : goal.enter-requires
 enter-requires c =
-    search_entering c.requires.0 c.wide-root.ensures.0 c.if-root-eq0.false c.requires.1
+    search_entering c.requires.0 c.from-root.ensures c.if-root-eq0.false c.requires.1
     (subst Shape (sym c.root_region-region.ensures) root_shape)
     (sym c.meets_range.ensures ∙ c.if-not-meets_range.false) Left
 
 pub returns : goal.returns
 returns c =
-    rw (← c.words_of-words.ensures)
-    (search-entered _ _ c.requires.0 c.root_region-region.ensures Left c.enter.ensures)
+    search-entered _ _ c.requires.0 c.root_region-region.ensures Left c.enter.ensures

@@ -8,5 +8,5 @@ use Rattle.block_read.proofs.part.records_part.Goals as goal
 
 pub returns : goal.returns
 returns c =
-    let counted = c.count_of-count.ensures.0 ∙ ap count_of c.block_at.ensures.0 in
+    let counted = c.count_of-count.ensures.0 ∙ ap count_of c.block_at.ensures in
     occupies refl (omega arith) (rw (add-sub_cancel_left, counted)) (omega arith)

@@ -1,9 +1,7 @@
--- `moment::put_moment` meets its contract: the day, a blank, the time. Assumes nothing.
-use mathlib.Core.Path.{sym}
-use Rattle.text.proofs.PutLaws.{put_then}
+-- `moment::put_moment` meets its contract: piece by piece. Assumes nothing.
+use Rattle.std.proofs.Common.{◌∙◌, append_assoc}
 use Rattle.calendar.proofs.moment.put_moment.Goals as goal
 
-pub returns : goal.returns
-returns c =
-    rw (sym c.day_of.ensures, sym c.date_after.ensures)
-    (put_then c.put_date-gap.ensures (put_then c.put_byte-time.ensures c.put_time.ensures))
+pub returns-clause-items : goal.returns-clause-items
+returns-clause-items g c =
+    c.put_time.ensures.items ∙ simp (c.put_byte.ensures.items, c.put_date.ensures.items, c.date_after.ensures, c.day_of.ensures, append_assoc)

@@ -2,5 +2,5 @@
 use Rattle.file_contents.proofs.ContentsSteps.{taken}
 use Rattle.commands.proofs.report.check.Goals as goal
 
-pub say_holdings-requires : goal.say_holdings-requires
-say_holdings-requires c = taken _ c.validate-defect.ensures c.is_wrong.ensures c.if-is_wrong.false
+pub say_sound-requires : goal.say_sound-requires
+say_sound-requires c = taken _ c.validate.ensures c.in-Ok.is

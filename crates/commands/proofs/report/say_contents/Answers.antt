@@ -3,4 +3,4 @@ use Rattle.file_contents.proofs.ContentsSteps.{taken}
 use Rattle.commands.proofs.report.say_contents.Goals as goal
 
 pub say_holdings-requires : goal.say_holdings-requires
-say_holdings-requires c = taken _ c.validate.ensures c.is_wrong.ensures c.if-is_wrong.false
+say_holdings-requires c = taken _ c.validate.ensures c.in-Ok.is

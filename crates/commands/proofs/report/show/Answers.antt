@@ -2,8 +2,5 @@
 use Rattle.file_contents.proofs.ContentsSteps.{taken}
 use Rattle.commands.proofs.report.show.Goals as goal
 
-pub say_rows-rows-requires : goal.say_rows-rows-requires
-say_rows-rows-requires c = taken _ c.validate-defect.ensures c.is_wrong.ensures c.if-is_wrong.false
-
-pub say_holdings-requires : goal.say_holdings-requires
-say_holdings-requires c = taken _ c.validate-defect.ensures c.is_wrong.ensures c.if-is_wrong.false
+pub say_table-requires : goal.say_table-requires
+say_table-requires c = taken _ c.validate.ensures c.in-Ok.is

@@ -4,10 +4,7 @@ use mathlib.Core.Path.{◌≡◌}
 use lib.ListN.{length, take}
 use Rattle.console.proofs.lines.read_on.Given as goal
 
-abbrev pub invariant-loop-turns : goal.invariant-loop-turns
-invariant-loop-turns g l =
+abbrev pub invariant-loop : goal.invariant-loop
+invariant-loop g l =
     (l.so_far ≤ length l.line) × (length l.line ≡ length l.initial.line) × (length l.input ≡ length l.initial.input) × (l.held ≤ l.so_far)
     × (take l.held l.line ≡ take l.held l.initial.line)
-
-abbrev pub decreases-loop-turns : goal.decreases-loop-turns
-decreases-loop-turns g l = l.turns

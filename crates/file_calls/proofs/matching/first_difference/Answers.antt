@@ -1,51 +1,37 @@
-use Prim.Native.Nat.{◌-◌}
-use mathlib.Core.Path.{refl, sym, ◌∙◌}
-use native.Mathlib.Omega.{arith}
-use Rattle.grants_file.proofs.FileLaws.{length-grants_in}
-use Rattle.grants_file.proofs.GrantSteps.{accepted-whole}
-use Rattle.steps.proofs.HitsLaws.{cell_hit}
-use Rattle.file_calls.proofs.DifferenceLaws.{length_ours, ours_here, both_end, theirs_left, ours_left, unequal_here, equal_here}
+use mathlib.Core.Path.{◌≡◌, sym, ◌∙◌}
+use mathlib.Core.Bool.{true, false}
+use borrow.Author.Tests.{not-false, not-true}
+use Rattle.model.specs.Grant.{same_grant}
+use Rattle.model.proofs.GrantLaws.{eq-same_grant}
+use Rattle.file_calls.proofs.DifferenceLaws.{both_end, theirs_left, ours_left, unequal_here, equal_here}
 use Rattle.file_calls.proofs.matching.first_difference.Goals as goal
 
-pub total_in-total-requires : goal.total_in-total-requires
-total_in-total-requires c = omega (arith, (accepted-whole _ c.requires.1).some)
+pub loop-theirs-preserved : goal.loop-theirs-preserved
+loop-theirs-preserved c =
+    let both = c.in-Some-Some in
+    let equal : same_grant both.ours both.theirs ≡ true =
+    sym (eq-same_grant both.ours both.theirs) ∙ not-false _ (sym c.ne.ensures ∙ c.if-ne.false) in
+    equal_here _ _ c.loop-theirs.i (sym c.ours_at.ensures ∙ both.is-0) (sym c.theirs_at.ensures ∙ both.is-1) equal ∙ c.loop-theirs.invariant
 
-pub loop-i-init : goal.loop-i-init
-loop-i-init c = (c.total_in-total.ensures.0, refl)
+pub returns-in-None-None : goal.returns-in-None-None
+returns-in-None-None c =
+    let none = c.in-None-None in
+    both_end _ _ c.loop-theirs.i (sym c.ours_at.ensures ∙ none.is-0) (sym c.theirs_at.ensures ∙ none.is-1) ∙ c.loop-theirs.invariant
 
-pub grant_in-theirs-requires : goal.grant_in-theirs-requires
-grant_in-theirs-requires c =
-    (c.requires.1, omega (arith, c.loop-i.invariant.0))
+pub returns-in-None-Some : goal.returns-in-None-Some
+returns-in-None-Some c =
+    let one = c.in-None-Some in
+    theirs_left _ _ c.loop-theirs.i (sym c.ours_at.ensures ∙ one.is-0) (sym c.theirs_at.ensures ∙ one.is-1) ∙ c.loop-theirs.invariant
 
-pub grant_at-ours-requires : goal.grant_at-ours-requires
-grant_at-ours-requires c = cell_hit c.requires.0 (omega arith) c.wide.ensures.0
+pub returns-in-Some-None : goal.returns-in-Some-None
+returns-in-Some-None c =
+    let one = c.in-Some-None in
+    ours_left _ _ c.loop-theirs.i (sym c.ours_at.ensures ∙ one.is-0) (sym c.theirs_at.ensures ∙ one.is-1) ∙ c.loop-theirs.invariant
 
-pub grant_in-theirs-requires-in-loop-i : goal.grant_in-theirs-requires-in-loop-i
-grant_in-theirs-requires-in-loop-i c =
-    (c.requires.1, omega (arith, c.loop-i.invariant.0))
-
-pub loop-i-preserved : goal.loop-i-preserved
-loop-i-preserved c =
-    let here = ours_here _ _ c.requires.0 (omega arith) c.wide.ensures.0 c.grant_at-ours.ensures in
-    let equal = sym c.same_grant.ensures ∙ c.if-not-same_grant.false in
-    (c.loop-i.invariant.0, sym (equal_here _ _ c.loop-i.i here c.grant_in-theirs-in-loop-i.ensures equal) ∙ c.loop-i.invariant.1)
-
-pub returns-then-total-i : goal.returns-then-total-i
-returns-then-total-i c =
-    both_end _ _ c.loop-i.i (omega (arith, length_ours _ _ c.requires.0)) (omega (arith, length-grants_in c.args.file.now, c.loop-i.invariant.0))
-    ∙ c.loop-i.invariant.1
-
-pub returns-else-total-i : goal.returns-else-total-i
-returns-else-total-i c =
-    theirs_left _ _ c.loop-i.i c.grant_in-theirs.ensures (omega (arith, length_ours _ _ c.requires.0)) ∙ c.loop-i.invariant.1
-
-pub returns-then-total-i-2 : goal.returns-then-total-i-2
-returns-then-total-i-2 c =
-    let here = ours_here _ _ c.requires.0 (omega arith) c.wide.ensures.0 c.grant_at-ours.ensures in
-    ours_left _ _ c.loop-i.i here (omega (arith, length-grants_in c.args.file.now, c.loop-i.invariant.0)) ∙ c.loop-i.invariant.1
-
-pub returns-then-not-same_grant : goal.returns-then-not-same_grant
-returns-then-not-same_grant c =
-    let here = ours_here _ _ c.requires.0 (omega arith) c.wide.ensures.0 c.grant_at-ours.ensures in
-    let unequal = sym c.same_grant.ensures ∙ c.if-not-same_grant.true in
-    unequal_here _ _ c.loop-i.i here c.grant_in-theirs-in-loop-i.ensures unequal c.lower.ensures ∙ c.loop-i.invariant.1
+pub returns-then-ne : goal.returns-then-ne
+returns-then-ne c =
+    let both = c.in-Some-Some in
+    let unequal : same_grant both.ours both.theirs ≡ false =
+    sym (eq-same_grant both.ours both.theirs) ∙ not-true _ (sym c.ne.ensures ∙ c.if-ne.true) in
+    rw c.min.ensures
+    (unequal_here _ _ c.loop-theirs.i (sym c.ours_at.ensures ∙ both.is-0) (sym c.theirs_at.ensures ∙ both.is-1) unequal ∙ c.loop-theirs.invariant)

@@ -1,14 +1,9 @@
 -- `write_file::write_blocks` meets its contract. The invariant: the blocks before place i are written. Assumes nothing.
-use Prim.Native.Nat.{◌-◌, ◌<◌, ◌≤◌}
+use Prim.Native.Nat.{◌<◌}
 use mathlib.Core.Path.{◌≡◌}
-use lib.ListN.{length}
 use Rattle.lists.specs.Overwrite.{overwrite}
 use Rattle.file_calls.proofs.WriteFileLaws.{front}
 use Rattle.file_calls.proofs.write_file.write_blocks.Given as goal
 
 abbrev pub invariant-loop-i : goal.invariant-loop-i
-invariant-loop-i l =
-    (0 < l.i) × (l.i ≤ l.blocks) × (length l.bytes ≡ length l.initial.bytes) × (l.bytes ≡ overwrite (front l.pool l.cells l.total l.initial.bytes l.i) l.initial.bytes)
-
-abbrev pub decreases-loop-i : goal.decreases-loop-i
-decreases-loop-i l = l.blocks - l.i
+invariant-loop-i l = (0 < l.i) × (l.bytes ≡ overwrite (front l.pool l.cells l.initial.bytes l.i) l.initial.bytes)

@@ -7,6 +7,3 @@ use Rattle.geometry.proofs.region.meets_range.Given as goal
 
 abbrev pub invariant-loop-n : goal.invariant-loop-n
 invariant-loop-n l = (l.n ≤ 7) × (meets l.region l.range ≡ each l.n (meets_on l.region l.range))
-
-abbrev pub decreases-loop-n : goal.decreases-loop-n
-decreases-loop-n l = l.n

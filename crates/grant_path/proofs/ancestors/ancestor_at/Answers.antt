@@ -1,5 +1,6 @@
 -- `ancestors::ancestor_at` meets its contract: the number's first hit, and the way up from it. Assumes nothing.
-use mathlib.Core.Path.{subst}
+use Rattle.std.proofs.Common.{subst}
+use Rattle.std.proofs.lemmas.Result.{err_from_is_err_and}
 use Rattle.index.specs.NumberSearch.{LiveFound}
 use Rattle.grant_path.proofs.AncestorSteps.{path-refused, path-starts, path_done}
 use Rattle.grant_path.proofs.ancestors.ancestor_at.Goals as goal
@@ -7,17 +8,15 @@ use Rattle.grant_path.proofs.ancestors.ancestor_at.Goals as goal
 pub ancestor_from-requires : goal.ancestor_from-requires
 ancestor_from-requires c =
     let a = c.args in
-    let at = subst (LiveFound a.pool.now a.number) c.in-At.is c.find_live-hit.ensures in
-    path-starts a.pool.now a.number a.i _ _ _ _ at
+    path-starts a.pool.now a.number a.i _ (subst (LiveFound a.pool.now a.number) c.in_ok-hit.was c.find_live.ensures)
 
-pub returns-in-Refused : goal.returns-in-Refused
-returns-in-Refused c =
+pub returns-in_err-hit : goal.returns-in_err-hit
+returns-in_err-hit c =
     let a = c.args in
-    let at = subst (LiveFound a.pool.now a.number) c.in-Refused.is c.find_live-hit.ensures in
-    path-refused a.pool.now a.number a.i _ at
+    let p = err_from_is_err_and c.from_residual.result c.from_residual.ensures.1 in
+    rw (p.1, p.2) (path-refused a.pool.now a.number a.i _ (subst (LiveFound a.pool.now a.number) c.in_err-hit.was c.find_live.ensures))
 
-pub returns-in-At : goal.returns-in-At
-returns-in-At c =
+pub returns : goal.returns
+returns c =
     let a = c.args in
-    let at = subst (LiveFound a.pool.now a.number) c.in-At.is c.find_live-hit.ensures in
-    path_done a.pool.now a.number a.i _ _ _ _ at c.ancestor_from.ensures
+    path_done a.pool.now a.number a.i _ (subst (LiveFound a.pool.now a.number) c.in_ok-hit.was c.find_live.ensures) c.ancestor_from.ensures

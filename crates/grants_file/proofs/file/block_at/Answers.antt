@@ -1,8 +1,7 @@
--- `file::block_at` meets its contract. Assumes nothing.
-use mathlib.Core.Path.{refl}
-use native.Mathlib.Nat.{add-sub_cancel_left}
-use Rattle.grants_file.proofs.FileSteps.{length_block_at}
+-- `file::block_at` meets its contract: the first 512 bytes from its place on. Assumes nothing.
+use Rattle.std.proofs.lemmas.List.{take_rest}
+use Rattle.std.proofs.lemmas.Option.{MatchOption-at_some}
 use Rattle.grants_file.proofs.file.block_at.Goals as goal
 
 pub returns : goal.returns
-returns c = rw add-sub_cancel_left (refl, length_block_at c.args.file.now c.args.block c.requires)
+returns c = let first = MatchOption-at_some _ _ _ c.unwrap.ensures c.first_chunk.ensures.cases in rw take_rest at first.same

@@ -1,18 +1,20 @@
 -- `validate::block_answer` meets its contract: the start of the block, then the rest. Assumes nothing.
-use mathlib.Core.Path.{sym, ◌∙◌}
+use Rattle.std.proofs.lemmas.Result.{err_from_is_err_and}
 use Rattle.grants_file.proofs.ValidateSteps.{answer-start, answer_content, answer_sound}
 use Rattle.grants_file.proofs.validate.block_answer.Goals as goal
 
-pub returns-then-is_wrong : goal.returns-then-is_wrong
-returns-then-is_wrong c = answer-start _ _ c.block_at.ensures.0 c.start_defect-start.ensures (sym c.if-is_wrong.true ∙ c.is_wrong.ensures)
+pub returns-in_err-start_defect : goal.returns-in_err-start_defect
+returns-in_err-start_defect c =
+    let p = err_from_is_err_and c.from_residual.result c.from_residual.ensures.1 in
+    rw (p.1, p.2) (answer-start _ _ c.block_at.ensures c.start_defect.ensures c.in_err-start_defect.was)
 
-pub returns-then-is_wrong-2 : goal.returns-then-is_wrong-2
-returns-then-is_wrong-2 c = answer_content _ _ c.block_at.ensures.0 c.start_defect-start.ensures (sym c.if-is_wrong.false ∙ c.is_wrong.ensures)
-    c.content_defect-content.ensures
-    (sym c.if-is_wrong-2.true ∙ c.is_wrong-2.ensures)
+pub returns-in_err-content_defect : goal.returns-in_err-content_defect
+returns-in_err-content_defect c =
+    let p = err_from_is_err_and c.from_residual-in_err-content_defect.result c.from_residual-in_err-content_defect.ensures.1 in
+    rw (p.1, p.2)
+    (answer_content _ _ c.block_at.ensures c.start_defect.ensures c.in_ok-start_defect.was c.content_defect.ensures c.in_err-content_defect.was)
 
 pub returns : goal.returns
-returns c = answer_sound _ _ c.block_at.ensures.0 c.start_defect-start.ensures (sym c.if-is_wrong.false ∙ c.is_wrong.ensures)
-    c.content_defect-content.ensures
-    (sym c.if-is_wrong-2.false ∙ c.is_wrong-2.ensures)
+returns c =
+    answer_sound _ _ c.block_at.ensures c.start_defect.ensures c.in_ok-start_defect.was c.content_defect.ensures c.in_ok-content_defect.was
     c.last_in.ensures

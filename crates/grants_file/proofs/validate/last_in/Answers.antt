@@ -6,4 +6,4 @@ pub returns-then-number-eq0 : goal.returns-then-number-eq0
 returns-then-number-eq0 c = last-first _ _ c.if-number-eq0.true
 
 pub returns : goal.returns
-returns c = last_full _ _ c.if-number-eq0.false c.block_at.ensures.0 c.be16_at.ensures
+returns c = last_full _ _ c.if-number-eq0.false c.block_at.ensures c.be16_at.ensures

@@ -1,4 +1,3 @@
-use Prim.Native.Nat.{◌-◌}
 use mathlib.Core.Path.{refl, sym, ◌∙◌}
 use native.Mathlib.Omega.{arith}
 use Rattle.grants_file.specs.Defects.{last_before}
@@ -12,20 +11,20 @@ pub loop-i-init : goal.loop-i-init
 unfolding last_before
 loop-i-init c =
     let whole = sym c.if-wrong_block_count.false ∙ c.wrong_block_count.ensures in
-    (omega arith, c.blocks_in-blocks.ensures, rw c.blocks_in-blocks.ensures (few_blocks _ whole), refl, blocks_start _ whole)
+    (few_blocks _ whole, refl, blocks_start _ whole)
 
 pub returns-in_default : goal.returns-in_default
 returns-in_default c =
     let l = c.loop-i in
-    rw (c.refused_defect.ensures, c.in_default.is) (blocks_wrong _ l.i (omega arith) _ (sym c.block_answer-answer.ensures ∙ c.in_default.is) ∙ l.invariant.4)
+    rw (c.and.ensures, c.in_default.is) (blocks_wrong _ l.i (omega arith) (sym c.block_answer-answer.ensures ∙ c.in_default.is) ∙ l.invariant.2)
 
 pub loop-i-preserved : goal.loop-i-preserved
 loop-i-preserved c =
     let l = c.loop-i in
-    let sound = blocks_sound _ l.i (omega arith) _ (sym c.block_answer-answer.ensures ∙ c.in-Sound.is) in
-    (omega arith, l.invariant.1, l.invariant.2, sound.1, sound.0 ∙ l.invariant.4)
+    let sound = blocks_sound _ l.i (omega arith) (sym c.block_answer-answer.ensures ∙ c.in-Ok.is) in
+    (l.invariant.0, sound.1, sound.0 ∙ l.invariant.2)
 
 pub returns : goal.returns
 returns c =
     let l = c.loop-i in
-    blocks_end _ l.i (omega arith) ∙ l.invariant.4
+    blocks_end _ l.i (omega arith) ∙ l.invariant.2

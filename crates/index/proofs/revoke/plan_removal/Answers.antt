@@ -1,38 +1,36 @@
 -- `revoke::plan_removal` meets its contract, in the order of revoke's line. Assumes nothing.
+use Rattle.std.proofs.Common.{subst}
+use Rattle.std.proofs.lemmas.Result.{err_from_is_err_and}
+use Rattle.index.specs.NumberSearch.{LiveFound}
 use Rattle.index.proofs.LiveLineLaws.{live-deep}
 use Rattle.index.proofs.PlanLaws.{hit_step, revoke-not-live, revoke_removal_broken, revoke_planned}
-use Rattle.index.specs.NumberSearch.{LiveFound}
-use Rattle.adt.specs.WalkResult.{removal_walk_of}
-use mathlib.Core.Path.{sym, ap, subst, ◌∙◌}
 use Rattle.index.proofs.revoke.plan_removal.Goals as goal
 
-pub overflow_sub-level : goal.overflow_sub-level
-overflow_sub-level c =
+pub returns-in_err-hit : goal.returns-in_err-hit
+returns-in_err-hit c =
     let a = c.args in
-    let at = subst (LiveFound a.pool.now a.number) c.in-At.is c.find_live-hit.ensures in
-    live-deep a.pool.now _ _ _ _ _ at
+    let p = err_from_is_err_and c.from_residual.result c.from_residual.ensures.1 in
+    rw (p.1, p.2) (revoke-not-live a.pool.now _ _ (subst (LiveFound a.pool.now a.number) c.in_err-hit.was c.find_live.ensures))
 
-pub find_terminal-end-requires : goal.find_terminal-end-requires
-find_terminal-end-requires c =
+pub overflow_sub-hit : goal.overflow_sub-hit
+overflow_sub-hit c =
     let a = c.args in
-    let at = subst (LiveFound a.pool.now a.number) c.in-At.is c.find_live-hit.ensures in
-    hit_step a.pool.now _ _ _ _ _ at
+    live-deep a.pool.now _ _ (subst (LiveFound a.pool.now a.number) c.in_ok-hit.was c.find_live.ensures)
 
-pub returns-in-Refused : goal.returns-in-Refused
-returns-in-Refused c =
+pub find_terminal-requires : goal.find_terminal-requires
+find_terminal-requires c =
     let a = c.args in
-    revoke-not-live a.pool.now _ _ (subst (LiveFound a.pool.now a.number) c.in-Refused.is c.find_live-hit.ensures)
+    hit_step a.pool.now _ _ (subst (LiveFound a.pool.now a.number) c.in_ok-hit.was c.find_live.ensures)
 
-pub returns-in-Broken : goal.returns-in-Broken
-returns-in-Broken c =
+pub returns-in_err-end : goal.returns-in_err-end
+returns-in_err-end c =
     let a = c.args in
-    let at = subst (LiveFound a.pool.now a.number) c.in-At.is c.find_live-hit.ensures in
-    let end = ap removal_walk_of (sym c.in-Broken.is) ∙ c.find_terminal-end.ensures in
-    revoke_removal_broken a.pool.now _ _ _ _ _ at end
+    let p = err_from_is_err_and c.from_residual-in_err-end.result c.from_residual-in_err-end.ensures.1 in
+    let live = subst (LiveFound a.pool.now a.number) c.in_ok-hit.was c.find_live.ensures in
+    rw (p.1, p.2) (revoke_removal_broken a.pool.now _ _ live c.find_terminal.ensures c.in_err-end.was)
 
-pub returns-in-At-end : goal.returns-in-At-end
-returns-in-At-end c =
+pub returns : goal.returns
+returns c =
     let a = c.args in
-    let at = subst (LiveFound a.pool.now a.number) c.in-At.is c.find_live-hit.ensures in
-    let end = ap removal_walk_of (sym c.in-At-end.is) ∙ c.find_terminal-end.ensures in
-    revoke_planned a.pool.now _ _ _ _ _ at _ _ end
+    let live = subst (LiveFound a.pool.now a.number) c.in_ok-hit.was c.find_live.ensures in
+    revoke_planned a.pool.now _ _ live c.find_terminal.ensures c.in_ok-end.was

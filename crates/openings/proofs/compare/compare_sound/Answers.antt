@@ -20,5 +20,5 @@ overflow_sub-result-2 c =
 pub returns : goal.returns
 returns c =
     let a = c.args in
-    rw (c.agreeing-both.ensures, c.entries_in.ensures, c.entries_in-2.ensures)
+    rw (c.agreeing-agreeing.ensures, c.entries_in.ensures, c.entries_in-2.ensures)
     (ap accepted (comparison-left a.door.now a.panel.now))

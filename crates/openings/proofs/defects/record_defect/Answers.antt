@@ -1,22 +1,14 @@
 -- `defects::record_defect` meets its contract. Assumes nothing.
-use native.Mathlib.Omega.{arith}
-use mathlib.Core.Path.{ap, ◌∙◌}
-use Rattle.openings.specs.Defects.{order_defect}
-use Rattle.openings.proofs.DefectLaws.{first_fall-least, defect-not_whole, defect-too_many, defect-order}
+use mathlib.Core.Path.{◌∙◌, sym, ap}
+use Rattle.std.proofs.Common.{Err}
+use Rattle.std.proofs.lemmas.Result.{err_from_is_err_and}
+use Rattle.openings.proofs.DefectLaws.{defect-size, defect-order}
 use Rattle.openings.proofs.defects.record_defect.Goals as goal
 
-pub returns-then-bytes-ne0 : goal.returns-then-bytes-ne0
-returns-then-bytes-ne0 c = defect-not_whole _ c.if-bytes-ne0.true
-
-pub returns-then-count-gt-MAX_ENTRIES : goal.returns-then-count-gt-MAX_ENTRIES
-returns-then-count-gt-MAX_ENTRIES c =
-    let bytes = c.args.bytes.now in
-    rw c.entries_in-count.ensures (defect-too_many bytes (omega arith) (omega arith))
-
-pub order_defect-requires : goal.order_defect-requires
-order_defect-requires c = rw c.first_fall.ensures (first_fall-least _)
+pub returns-in_err-size_defect : goal.returns-in_err-size_defect
+returns-in_err-size_defect c =
+    let err = err_from_is_err_and c.from_residual.result c.from_residual.ensures.1 in
+    err.1 ∙ ap Err err.2 ∙ defect-size c.args.bytes.now _ (sym c.size_defect.ensures ∙ c.in_err-size_defect.was)
 
 pub returns : goal.returns
-returns c =
-    let bytes = c.args.bytes.now in
-    c.order_defect.ensures ∙ ap (order_defect bytes) c.first_fall.ensures ∙ defect-order bytes (omega arith) (omega arith)
+returns c = c.order_defect.ensures ∙ defect-order c.args.bytes.now (sym c.size_defect.ensures ∙ c.in_ok-size_defect.was)

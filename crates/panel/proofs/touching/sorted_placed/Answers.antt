@@ -3,6 +3,4 @@ use Rattle.panel.proofs.PlacedLaws.{placed-sorted}
 use Rattle.panel.proofs.touching.sorted_placed.Goals as goal
 
 pub returns : goal.returns
-returns c =
-    placed-sorted c.args.pool.now c.args.hits.now _ c.args.found c.args.i
-    c.sort_cells.ensures.0 c.placed.ensures
+returns c = placed-sorted c.args.pool.now c.args.hits.now c.args.i c.sort_cells.ensures.0 c.placed.ensures

@@ -1,20 +1,25 @@
 -- `touching::touching_at` meets its contract, test by test. Assumes nothing.
-use mathlib.Core.Path.{refl, sym, ◌∙◌}
-use native.Mathlib.Omega.{arith}
+use Rattle.std.proofs.Common.{arith, refl, sym, ◌∙◌}
+use Rattle.std.proofs.lemmas.Result.{err_from_is_err_and}
+use Rattle.model.specs.declared.Fault.TheVariants.{BadPool}
 use Rattle.model.proofs.QuarterLaws.{coverable-below}
 use Rattle.calls.proofs.RefusalSteps.{pool_taken}
-use Rattle.steps.proofs.HitsLaws.{found-cells}
+use Rattle.steps.proofs.HitsLaws.{found-cells, found-room, found_long}
+use Rattle.steps.proofs.OptionSteps.{some_from_ok, none_from_err, refusal_is}
 use Rattle.panel.proofs.TouchingSteps.{touching_bad, touching_late, touching-broken, touching_done}
 use Rattle.panel.proofs.touching.touching_at.Goals as goal
 
-pub returns-then-cells-eq0 : goal.returns-then-cells-eq0
-returns-then-cells-eq0 c =
-    touching_bad c.args.pool.now c.args.door c.args.quarter c.args.i c.capacity-cells.ensures c.if-cells-eq0.true
+pub returns-in_err-cells : goal.returns-in_err-cells
+returns-in_err-cells c =
+    let a = c.args in
+    let p = err_from_is_err_and c.from_residual.result c.from_residual.ensures.1 in
+    rw (p.1, p.2, refusal_is c.capacity.result BadPool c.ok_or.ensures.value c.in_err-cells.was)
+    (touching_bad a.pool.now a.door a.quarter a.i c.capacity.ensures (none_from_err c.ok_or.ensures.ok_part c.in_err-cells.was))
 
 pub returns-then-not-is_coverable : goal.returns-then-not-is_coverable
 returns-then-not-is_coverable c =
     let a = c.args in
-    touching_late a.pool.now a.door a.quarter a.i c.capacity-cells.ensures c.if-cells-eq0.false
+    touching_late a.pool.now a.door a.quarter a.i c.capacity.ensures (some_from_ok c.ok_or.ensures.ok_part c.in_ok-cells.was)
     (sym c.is_coverable.ensures ∙ c.if-not-is_coverable.true)
 
 pub door_box-bounds-requires : goal.door_box-bounds-requires
@@ -22,24 +27,30 @@ door_box-bounds-requires c = coverable-below _ (sym c.is_coverable.ensures ∙ c
 
 pub find_taken-requires : goal.find_taken-requires
 find_taken-requires c =
-    let t = pool_taken _ c.capacity-cells.ensures c.if-cells-eq0.false in
+    let t = pool_taken _ c.capacity.ensures (some_from_ok c.ok_or.ensures.ok_part c.in_ok-cells.was) in
     record { sized = t.sized; some = rw c.door_box-bounds.ensures (omega arith); room = refl }
 
-pub returns-in_default : goal.returns-in_default
-returns-in_default c =
+pub returns-in_err-found : goal.returns-in_err-found
+returns-in_err-found c =
     let a = c.args in
-    touching-broken a.pool.now a.door a.quarter a.i c.capacity-cells.ensures c.if-cells-eq0.false
+    let p = err_from_is_err_and c.from_residual-in_err-found.result c.from_residual-in_err-found.ensures.1 in
+    rw (p.1, p.2)
+    (touching-broken a.pool.now a.door a.quarter a.i c.capacity.ensures (some_from_ok c.ok_or.ensures.ok_part c.in_ok-cells.was)
     (sym c.is_coverable.ensures ∙ c.if-not-is_coverable.false)
-    c.door_box-bounds.ensures _ c.find_taken.ensures c.in_default.is
+    c.door_box-bounds.ensures _ c.find_taken.ensures c.in_err-found.was)
+
+pub slice_bounds-hits-end : goal.slice_bounds-hits-end
+slice_bounds-hits-end c = found-room _ _ _ _ c.find_taken.ensures c.in_ok-found.was
+
+pub slice_bounds-hits-end-2 : goal.slice_bounds-hits-end-2
+slice_bounds-hits-end-2 c = found_long _ _ _ _ c.find_taken.ensures c.in_ok-found.was
 
 pub sorted_placed-requires : goal.sorted_placed-requires
-sorted_placed-requires c =
-    found-cells _ _ _ _ c.find_taken.ensures c.in-Found.is
+sorted_placed-requires c = found-cells _ _ _ _ c.find_taken.ensures c.in_ok-found.was
 
 pub returns : goal.returns
 returns c =
     let a = c.args in
-    touching_done a.pool.now a.door a.quarter a.i c.capacity-cells.ensures c.if-cells-eq0.false
+    touching_done a.pool.now a.door a.quarter a.i c.capacity.ensures (some_from_ok c.ok_or.ensures.ok_part c.in_ok-cells.was)
     (sym c.is_coverable.ensures ∙ c.if-not-is_coverable.false)
-    c.door_box-bounds.ensures _ c.find_taken.ensures c.in-Found.is
-    c.sorted_placed.ensures
+    c.door_box-bounds.ensures _ c.find_taken.ensures c.in_ok-found.was c.sorted_placed.ensures

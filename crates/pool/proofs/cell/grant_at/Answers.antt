@@ -4,4 +4,4 @@ use Rattle.pool.proofs.cell.grant_at.Goals as goal
 
 pub returns : goal.returns
 unfolding grant_at
-returns c = rw (c.bounds_at.ensures, c.kind_of.ensures, c.field.ensures, c.field-rank_kind.ensures)
+returns c = rw (c.bounds_at.ensures, c.of.ensures, c.field.ensures, c.field-rank_kind.ensures)

@@ -1,23 +1,16 @@
-use Rattle.pool.proofs.StoreLaws.{store_again, store_done}
-use Rattle.pool.specs.Layout.{place}
-use lib.ListN.{length-set}
+-- `cell::store_cell` meets its contract: its words take the place of the cell's. Assumes nothing.
 use native.Mathlib.Omega.{arith}
-use mathlib.Core.Path.{refl}
-use borrow.Author.Rules.{rules}
+use Rattle.pool.specs.Layout.{place}
+use Rattle.pool.proofs.StoreLaws.{cell_stored}
 use Rattle.pool.proofs.cell.store_cell.Goals as goal
 
-pub loop-i-init : goal.loop-i-init
+pub slice_bounds-copy_from_slice-end : goal.slice_bounds-copy_from_slice-end
 unfolding place
-loop-i-init c =
-    let p = c.requires in
-    (search rules, omega (arith, c.place_of-at.ensures.0, p.0.some, p.0.long), p.1, refl, refl)
-
-pub loop-i-preserved : goal.loop-i-preserved
-loop-i-preserved c =
-    let i = c.loop-i.invariant in
-    (search rules, simp length-set i.1, i.2, simp length-set i.3, store_again _ _ _ _ _ i.2 c.loop-i-test.true i.4)
+slice_bounds-copy_from_slice-end c = omega (arith, c.place_of-at.ensures.0, c.requires.0.some, c.requires.0.long)
 
 pub returns : goal.returns
+unfolding place
 returns c =
-    let i = c.loop-i.invariant in
-    store_done _ _ _ _ _ _ i.2 c.loop-i-test.false c.place_of-at.ensures.0 i.4
+    let at = c.place_of-at.ensures.0 in
+    rw c.copy_from_slice.ensures.after
+    (cell_stored c.args.pool.now c.args.words c.args.cell _ _ at c.requires.1 (omega arith) (omega (arith, at, c.requires.0.some, c.requires.0.long)))

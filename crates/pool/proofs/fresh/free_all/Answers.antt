@@ -31,4 +31,4 @@ loop-k-preserved c =
     )
 
 pub returns : goal.returns
-returns c = let i = c.loop-k.invariant in (free_done _ _ _ c.loop-k-test.false i.3, i.4)
+returns c = let i = c.loop-k.invariant in (free_done _ _ _ (omega arith) i.3, i.4)

@@ -16,6 +16,3 @@ invariant-loop-k l =
     × (l.next ≡ cond (eqb (l.cells - l.k) 0) 0 (suc l.k))
     × (drop (pool_length l.k) l.pool ≡ free_cells (l.cells - l.k) (suc l.k))
     × (take header_words l.pool ≡ take header_words l.initial.pool)
-
-abbrev pub decreases-loop-k : goal.decreases-loop-k
-decreases-loop-k l = l.k

@@ -3,16 +3,14 @@ use Rattle.pool.proofs.CapacitySteps.{length_header, pool_none, pool_other, pool
 use native.Mathlib.Omega.{arith}
 use Rattle.pool.proofs.layout.capacity.Goals as goal
 
-pub returns-then-cells-eq0 : goal.returns-then-cells-eq0
-returns-then-cells-eq0 c = pool_none _ c.length_capacity-cells.ensures c.if-cells-eq0.true
+pub returns-in_err-cells : goal.returns-in_err-cells
+returns-in_err-cells c = rw c.from_residual.ensures (pool_none _ c.in_err-cells.ensures)
 
 pub bounds-pool-0 : goal.bounds-pool-0
-bounds-pool-0 c = omega (arith, length_header _ c.length_capacity-cells.ensures c.if-cells-eq0.false)
+bounds-pool-0 c = omega (arith, length_header _ c.in_ok-cells.ensures)
 
-pub returns-then-wide-cells : goal.returns-then-wide-cells
-returns-then-wide-cells c =
-    pool_other _ c.length_capacity-cells.ensures c.if-cells-eq0.false c.wide.ensures.0 c.if-wide-cells.true
+pub returns-then-from-cells : goal.returns-then-from-cells
+returns-then-from-cells c = pool_other _ c.in_ok-cells.ensures c.from.ensures c.if-from-cells.true
 
 pub returns : goal.returns
-returns c =
-    pool_right _ c.length_capacity-cells.ensures c.if-cells-eq0.false c.wide.ensures.0 c.if-wide-cells.false
+returns c = pool_right _ c.in_ok-cells.ensures c.from.ensures c.if-from-cells.false

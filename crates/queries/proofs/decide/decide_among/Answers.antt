@@ -1,35 +1,33 @@
-use Prim.Native.Nat.{◌-◌}
-use mathlib.Core.Path.{sym, ◌∙◌}
-use native.Mathlib.Omega.{arith}
+use Rattle.std.proofs.Common.{arith, sym, ◌∙◌}
 use Rattle.steps.proofs.HitsLaws.{cell_hit}
-use Rattle.queries.proofs.DecideLaws.{decides-none, decides_over, decides_under, decides-end}
+use Rattle.queries.proofs.DecideLaws.{rest_at, decides-none, decides_over, decides_under, decides-end}
 use Rattle.queries.proofs.decide.decide_among.Goals as goal
 use Rattle.queries.proofs.decide.decide_among.Goals.{then-outranks, else-outranks}
 
-pub returns-then-found-eq0 : goal.returns-then-found-eq0
-returns-then-found-eq0 c = decides-none _ _ c.requires c.if-found-eq0.true
-
-pub grant_at-deciding-requires : goal.grant_at-deciding-requires
-grant_at-deciding-requires c = cell_hit c.requires (omega arith) c.wide.ensures.0
+pub returns-in_default : goal.returns-in_default
+returns-in_default c = decides-none _ _ (omega (arith, c.in_default.len_below))
 
 pub grant_at-other-requires : goal.grant_at-other-requires
 grant_at-other-requires c =
-    cell_hit c.requires c.loop-i-test.true c.wide-in-loop-i.ensures.0
+    cell_hit c.requires (omega (arith, c.loop-hit-test.true)) (rest_at c.args.hits.now _ c.from-in-loop-hit.ensures)
 
-pub loop-i-preserved : goal.loop-i-preserved
-loop-i-preserved c =
-    let loop = c.loop-i in
-    let cells = c.requires in
+pub loop-hit-preserved : goal.loop-hit-preserved
+loop-hit-preserved c =
+    let loop = c.loop-hit in
+    let w = c.args.pool.now in
+    let hits = c.args.hits.now in
     let o = c.outranks.ensures in
-    let cell = c.wide-in-loop-i.ensures.0 in
-    let over = decides_over _ _ cells c.loop-i-test.true cell c.grant_at-other.ensures loop.deciding loop.invariant.1 in
-    let under = decides_under _ _ cells c.loop-i-test.true cell c.grant_at-other.ensures loop.deciding loop.invariant.1 in
-    (omega arith, elim c.if-outranks.branch [ then-outranks w ↦ rw w.deciding-is (over (sym o ∙ w.if-outranks.true)) | else-outranks w ↦ rw w.deciding-is (under (sym o ∙ w.if-outranks.false)) ])
+    let cell = rest_at c.args.hits.now _ c.from-in-loop-hit.ensures in
+    let over = decides_over w hits (omega (arith, c.loop-hit-test.true)) cell c.grant_at-other.ensures loop.deciding loop.invariant in
+    let under = decides_under w hits (omega (arith, c.loop-hit-test.true)) cell c.grant_at-other.ensures loop.deciding loop.invariant in
+    elim c.if-outranks.branch [
+      | then-outranks b ↦ rw b.deciding-is (over (sym o ∙ b.if-outranks.true))
+      | else-outranks b ↦ rw b.deciding-is (under (sym o ∙ b.if-outranks.false))
+    ]
 
 pub returns : goal.returns
 returns c =
-    let loop = c.loop-i in
-    let cells = c.requires in
-    let some = c.if-found-eq0.false in
+    let loop = c.loop-hit in
     c.decision_of.ensures
-    ∙ decides-end _ _ cells loop.i (omega arith) some c.wide.ensures.0 c.grant_at-deciding.ensures loop.deciding loop.invariant.1
+    ∙ decides-end c.args.pool.now c.args.hits.now _ (omega (arith, c.loop-hit-test.false)) (omega (arith, c.in-len1-up.len_at_least))
+    c.from.ensures c.grant_at-deciding.ensures loop.deciding loop.invariant

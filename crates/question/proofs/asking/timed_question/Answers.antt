@@ -1,16 +1,32 @@
--- `asking::timed_question` meets its contract, word by word. Assumes nothing.
-use mathlib.Core.Path.{sym, ◌∙◌}
-use Rattle.question.proofs.QuestionLaws.{timed_who, timed_may, timed_bad}
+-- `asking::timed_question` meets its contract. Assumes nothing.
+use mathlib.Core.Path.{◌∙◌}
+use Rattle.text.specs.Ascii.{ascii}
+use Rattle.question.proofs.WordLaws.{starts}
+use Rattle.question.proofs.QuestionLaws.{timed_who, timed_may, timed_other}
 use Rattle.question.proofs.asking.timed_question.Goals as goal
 
-pub returns-then-starts : goal.returns-then-starts
-returns-then-starts c =
-    c.who_at.ensures ∙ timed_who _ _ (sym c.starts.ensures ∙ c.if-starts.true)
+pub returns-in_err-door : goal.returns-in_err-door
+returns-in_err-door c =
+    let word = c.in-Some.ensures.cases in
+    c.from_residual.ensures ∙ timed_who _ _ _ (starts (ascii "who ") _ word.0) (rw word.1 at c.in_err-door.ensures)
 
-pub returns-then-starts-2 : goal.returns-then-starts-2
-returns-then-starts-2 c =
-    c.may_at.ensures ∙ timed_may _ _ (sym c.starts.ensures ∙ c.if-starts.false) (sym c.starts-2.ensures ∙ c.if-starts-2.true)
+pub returns-in-Some : goal.returns-in-Some
+returns-in-Some c =
+    let word = c.in-Some.ensures.cases in
+    timed_who _ _ _ (starts (ascii "who ") _ word.0) (rw word.1 at c.in_ok-door.ensures)
+
+pub returns-in_err-rest : goal.returns-in_err-rest
+returns-in_err-rest c =
+    c.from_residual-in_err-rest.ensures
+    ∙ timed_other _ _ (starts (ascii "who ") _ c.in_default.ensures.cases) (starts (ascii "may ") _ c.in_err-rest.ensures.cases)
+
+pub returns-in_err-staff : goal.returns-in_err-staff
+returns-in_err-staff c =
+    let word = c.in_ok-rest.ensures.cases in
+    c.from_residual-in_err-staff.ensures
+    ∙ timed_may _ _ _ (starts (ascii "who ") _ c.in_default.ensures.cases) (starts (ascii "may ") _ word.0) (rw word.1 at c.in_err-staff.ensures)
 
 pub returns : goal.returns
 returns c =
-    timed_bad _ _ (sym c.starts.ensures ∙ c.if-starts.false) (sym c.starts-2.ensures ∙ c.if-starts-2.false)
+    let word = c.in_ok-rest.ensures.cases in
+    timed_may _ _ _ (starts (ascii "who ") _ c.in_default.ensures.cases) (starts (ascii "may ") _ word.0) (rw word.1 at c.in_ok-staff.ensures)

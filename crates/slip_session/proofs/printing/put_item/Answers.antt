@@ -1,19 +1,20 @@
 -- `printing::put_item` meets its contract. Assumes nothing.
-use native.Mathlib.Omega.{arith}
-use Rattle.text.proofs.PutLaws.{put_then}
+use Rattle.std.proofs.Common.{arith, rules, [], ◌∷◌, ◌∙◌, append_assoc}
+use Rattle.text.specs.Ascii.{blank}
+use Rattle.text.specs.Numeral.{numeral}
 use Rattle.text.proofs.NumeralLaws.{numeral-few}
 use Rattle.slip_session.proofs.printing.put_item.Goals as goal
 
-pub put_byte-next-requires : goal.put_byte-next-requires
-put_byte-next-requires c = omega arith
-
 pub put_number-requires : goal.put_number-requires
-put_number-requires c =
-    let b = c.put_byte-next in
-    omega (arith, c.requires, numeral-few 4 c.args.n (omega (arith, c.ranges)), b.ensures.ends, b.auto.out)
+put_number-requires g c =
+    (search rules, rw c.from.ensures (omega (arith, c.requires, numeral-few 4 c.args.n (omega (arith, c.ranges.n.fits)), c.put_byte.ensures.len)))
 
-pub returns : goal.returns
-returns c =
-    let b = c.put_byte-next.ensures in
-    let n = c.put_number.ensures in
-    (put_then b n, omega (arith, numeral-few 4 c.args.n (omega (arith, c.ranges)), b.ends, n.ends))
+pub returns-clause-items : goal.returns-clause-items
+returns-clause-items g c =
+    let n = rw c.from.ensures at c.put_number.ensures.items in
+    n ∙ rw (c.put_byte.ensures.items, append_assoc c.args.line.now.items (blank ∷ []) (numeral c.args.n))
+
+pub returns-clause-len : goal.returns-clause-len
+returns-clause-len g c =
+    let n = rw c.from.ensures at c.put_number.ensures.len in
+    omega (arith, numeral-few 4 c.args.n (omega (arith, c.ranges.n.fits)), c.put_byte.ensures.len, n)

@@ -6,7 +6,7 @@ use Rattle.slip_session.proofs.printing.shown.Goals as goal
 
 pub returns : goal.returns
 returns c =
-    let e = c.least.ensures in
-    let f = c.least-2.ensures in
+    let e = c.min.ensures in
+    let f = c.min-2.ensures in
     let a = c.args in
     (rw (f, e) (take-least a.written max_grants a.numbers.now), omega (arith, f), omega (arith, e, f))

@@ -1,33 +1,24 @@
 -- `insertion::add` meets its contract: what was planned is stored. Assumes nothing.
-use Prim.Native.Nat.{ℕ}
-use mathlib.Core.Path.{◌≡◌, refl, sym, ap, ◌∙◌}
-use Rattle.model.specs.declared.Grant.{Grant}
-use Rattle.model.specs.Kind.{kind_number}
-use Rattle.model.specs.Call.{request, request_of}
-use Rattle.adt.specs.Insert.{inserted}
-use Rattle.steps.proofs.InsertionLaws.{planned_as, plan_inserts, added-refused, added_done}
+use Rattle.std.proofs.Common.{sym, ap, subst, ◌∙◌}
+use Rattle.model.specs.Call.{request_of}
 use Rattle.model.proofs.ArgumentLaws.{requested-request_of}
+use Rattle.adt.specs.Insert.{inserted}
+use Rattle.steps.specs.Insertions.{SlotPlanned}
+use Rattle.steps.proofs.InsertionLaws.{plan_inserts, added-refused, added_done}
 use Rattle.steps.proofs.insertion.add.Goals as goal
-
-same-request : (g : Grant) {k : ℕ} → k ≡ kind_number g.kind → request g.number g.rank k g.bounds ≡ request_of g
-same-request g e = ap (λ (k : ℕ). request g.number g.rank k g.bounds) e
 
 pub insert-requires : goal.insert-requires
 insert-requires c =
     let a = c.args in
-    let same = same-request a.g c.kind_number.ensures.0 in
-    plan_inserts a.pool.now (request_of a.g) _ _ _ _ _
-    (planned_as a.pool.now same refl c.in-At.ensures)
+    plan_inserts a.pool.now (request_of a.g) _ _ (subst (SlotPlanned a.pool.now (request_of a.g)) c.in-Ok.is c.plan_slot.ensures)
 
-pub returns-in-Refused : goal.returns-in-Refused
-returns-in-Refused c =
+pub returns-in-Ok : goal.returns-in-Ok
+returns-in-Ok c =
     let a = c.args in
-    let same = same-request a.g c.kind_number.ensures.0 in
-    added-refused a.pool.now (request_of a.g) _ (planned_as a.pool.now same refl c.in-Refused.ensures)
-
-pub returns-in-At : goal.returns-in-At
-returns-in-At c =
-    let a = c.args in
-    let same = same-request a.g c.kind_number.ensures.0 in
-    added_done a.pool.now (request_of a.g) _ _ _ _ (planned_as a.pool.now same refl c.in-At.ensures)
+    added_done a.pool.now (request_of a.g) _ (subst (SlotPlanned a.pool.now (request_of a.g)) c.in-Ok.is c.plan_slot.ensures)
     (c.insert.ensures ∙ ap (inserted a.pool.now _ _) (sym (requested-request_of a.g)))
+
+pub returns-in_default : goal.returns-in_default
+returns-in_default c =
+    let a = c.args in
+    added-refused a.pool.now (request_of a.g) _ (subst (SlotPlanned a.pool.now (request_of a.g)) c.in_default.is c.plan_slot.ensures)

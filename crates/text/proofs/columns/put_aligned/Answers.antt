@@ -1,28 +1,25 @@
 -- `columns::put_aligned` meets its contract: blanks, then the number. Assumes nothing.
-use Prim.Native.Nat.{◌-◌}
-use native.Mathlib.Omega.{arith}
-use lib.ListN.{length-replicate}
-use Rattle.text.specs.Ascii.{blank}
-use Rattle.text.specs.Columns.{column_bytes}
-use Rattle.text.proofs.ColumnLaws.{put_aligned-whole}
+use Rattle.std.proofs.Common.{arith, rules, ap, length}
+use Rattle.text.proofs.ColumnLaws.{digits_fit, put_aligned-whole}
 use Rattle.text.proofs.columns.put_aligned.Goals as goal
 
-pub put_number-requires : goal.put_number-requires
-put_number-requires c =
-    let digits = c.digits_of in
-    let put = c.put_blanks-next in
-    omega (
-      arith,
-      c.requires,
-      digits.ensures.0,
-      digits.ensures.1,
-      put.ensures.ends,
-      put.auto.out,
-      length-replicate (column_bytes - digits.result) blank,
-    )
+pub overflow_sub-len : goal.overflow_sub-len
+overflow_sub-len g c =
+    rw c.len.ensures.value (digits_fit c.args.n (omega (arith, c.ranges.n.fits)) (rw c.from.ensures at c.numeral-digits.ensures))
 
-pub returns : goal.returns
-returns c =
-    let digits = c.digits_of in
-    put_aligned-whole c.args.n digits.result digits.ensures.0 digits.ensures.1
-    c.put_blanks-next.ensures c.put_number.ensures
+pub put_text-requires : goal.put_text-requires
+put_text-requires g c =
+    let fit = digits_fit c.args.n (omega (arith, c.ranges.n.fits)) (rw c.from.ensures at c.numeral-digits.ensures) in
+    (search rules, omega (arith, c.requires, c.put_blanks.ensures.len, c.len.ensures.value, ap length c.as_slice.ensures.value, fit))
+
+pub returns-clause-items : goal.returns-clause-items
+returns-clause-items g c =
+    put_aligned-whole c.args.n c.args.line.now.items
+    (rw c.len.ensures.value at c.put_blanks.ensures.items)
+    (rw c.from.ensures at c.numeral-digits.ensures)
+    (rw c.as_slice.ensures.value at c.put_text.ensures.items)
+
+pub returns-clause-len : goal.returns-clause-len
+returns-clause-len g c =
+    let fit = digits_fit c.args.n (omega (arith, c.ranges.n.fits)) (rw c.from.ensures at c.numeral-digits.ensures) in
+    omega (arith, c.put_text.ensures.len, c.put_blanks.ensures.len, c.len.ensures.value, ap length c.as_slice.ensures.value, fit)

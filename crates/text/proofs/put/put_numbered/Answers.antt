@@ -1,12 +1,12 @@
 -- `put::put_numbered` meets its contract. Assumes nothing.
-use native.Mathlib.Omega.{arith}
-use Rattle.text.specs.Numeral.{numeral}
-use Rattle.text.proofs.PutLaws.{put_then}
+use Rattle.std.proofs.Common.{arith, rules}
 use Rattle.text.proofs.NumeralLaws.{numeral-few}
 use Rattle.text.proofs.put.put_numbered.Goals as goal
 
 pub put_number-requires : goal.put_number-requires
-put_number-requires c = omega (arith, numeral-few 19 c.args.n (omega (arith, c.ranges.n.fits)))
+put_number-requires g c =
+    (search rules, omega (arith, c.requires, c.put_text.ensures.len, numeral-few 19 c.args.n (omega (arith, c.ranges.n.fits))))
 
-pub returns : goal.returns
-returns c = (put_then c.put_text-next.ensures c.put_number.ensures, omega (arith, numeral-few 19 c.args.n (omega (arith, c.ranges.n.fits))))
+pub returns-clause-len : goal.returns-clause-len
+returns-clause-len g c =
+    omega (arith, c.put_text.ensures.len, c.put_number.ensures.len, numeral-few 19 c.args.n (omega (arith, c.ranges.n.fits)))

@@ -1,6 +1,0 @@
--- `lg_grant` meets its contract: the answer of `grant`, packed. Assumes nothing.
-use Rattle.c_api.proofs.ContractLaws.{packs_pool}
-use Rattle.c_api.proofs.lg_grant.Goals as goal
-
-pub returns : goal.returns
-returns c = packs_pool c.pack_outcome.ensures c.grant.ensures

@@ -1,6 +1,0 @@
--- `lg_load` meets its contract: the answer of `load`, packed. Assumes nothing.
-use Rattle.c_api.proofs.ContractLaws.{packs_pool}
-use Rattle.c_api.proofs.lg_load.Goals as goal
-
-pub returns : goal.returns
-returns c = packs_pool c.pack_outcome.ensures c.load.ensures

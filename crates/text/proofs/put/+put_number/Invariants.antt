@@ -1,5 +1,0 @@
--- `put::put_number` meets its contract: all digits but the last, then the last. The measure is the number. Assumes nothing.
-use Rattle.text.proofs.put.+put_number.Given as goal
-
-abbrev pub decreases-put_number : goal.decreases-put_number
-decreases-put_number l = l.n
