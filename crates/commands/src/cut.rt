@@ -133,6 +133,8 @@ fn door_at(rt: HostRuntime, what: &[u8], place: usize) -> Option<u16> {
     door
 }
 
+// Not inlined: its index and its file would stand in the frame of the program, below those of every other command.
+#[inline(never)]
 pub fn cut(rt: HostRuntime) -> Ending {
     if !are_given(rt) {
         return Ending::Failed;

@@ -13,7 +13,7 @@ use model::{Fault, MAX_GRANTS};
 use pool::Field;
 use pool::layout::{CAPACITY, CELL_WORDS, FREE, MAX_WORDS, ROOT, place_of};
 use slip_session::answer;
-use slip_session::printing::print_outcome;
+use slip_session::printing::{Line, print_outcome};
 
 // The words of a pool of one cell.
 const ONE_CELL: usize = MAX_WORDS - (MAX_GRANTS - 1) * CELL_WORDS;
@@ -54,7 +54,9 @@ fn link_both_to_next(pool: &mut [u16]) {
 }
 
 fn call(rt: HostRuntime, pool: &mut [u16], lent: &mut [u16], line: &[u8]) {
-    let _ = rt.write_all(answer(pool, lent, line).as_slice());
+    let mut out = Line::new();
+    answer(pool, lent, line, &mut out);
+    let _ = rt.write_all(out.as_slice());
 }
 
 // A slip of each kind.
@@ -68,7 +70,9 @@ fn each_call(rt: HostRuntime, pool: &mut [u16]) {
 }
 
 fn say(rt: HostRuntime, outcome: Result<(), Fault>) {
-    let _ = rt.write_all(print_outcome(outcome).as_slice());
+    let mut out = Line::new();
+    print_outcome(outcome, &mut out);
+    let _ = rt.write_all(out.as_slice());
 }
 
 fn write_all_doors(rt: HostRuntime, pool: &[u16]) {

@@ -29,7 +29,9 @@ pub fn load(pool: &mut [u16], file: &[u8]) -> Result<(), Fault>
     ensures { Leaves (outcome_answer result) pool.new (load_call pool.old file.now) }
 {
     let cells = length_capacity(pool).ok_or(Fault::BadPool)?;
-    judge(file)?;
+    if let Err(fault) = judge(file) {
+        return Err(fault);
+    }
     let total = total_in(file);
     if cells < total {
         return Err(Fault::Full);

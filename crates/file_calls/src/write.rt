@@ -27,7 +27,9 @@ pub fn write(pool: &[u16], door_from: u16, door_to: u16, bytes: &mut [u8]) -> Re
         to: door_to,
     });
     let mut hits = [0u16; MAX_CAPACITY];
-    let found = find_hits(pool, cells, &range, Predicate::InRange, &mut hits)?;
+    let Ok(found) = find_hits(pool, cells, &range, Predicate::InRange, &mut hits) else {
+        return Err(Fault::BrokenLinks);
+    };
     let needed = BLOCK_BYTES * blocks_for(found);
     if bytes.len() < needed {
         return Err(Fault::BufferTooShort { needed });

@@ -13,9 +13,8 @@ pub mod program;
 
 use crate::parsing::slip_of;
 use crate::printing::{
-    LINE_BYTES, print_bad, print_counted, print_decision, print_listed, print_outcome,
+    Line, print_bad, print_counted, print_decision, print_listed, print_outcome,
 };
-use arrayvec::ArrayVec;
 use index::grant::grant;
 use index::revoke::revoke;
 use model::{Box, Choice};
@@ -46,11 +45,11 @@ pub enum Slip {
 pub const LONGEST: usize = 4096;
 
 // Makes the call that the line stands for, and prints its answer.
-pub fn answer(pool: &mut [u16], lent: &mut [u16], line: &[u8]) -> ArrayVec<u8, LINE_BYTES>
-    ensures { Prints pool.new lent.new result.items (line_step words_step pool.old lent.old line.now) }
+pub fn answer(pool: &mut [u16], lent: &mut [u16], line: &[u8], out: &mut Line)
+    ensures { Prints pool.new lent.new out.new.items (line_step words_step pool.old lent.old line.now) }
 {
     let Some(slip) = slip_of(line) else {
-        return print_bad();
+        return print_bad(out);
     };
     match slip {
         Slip::Grant {
@@ -58,17 +57,17 @@ pub fn answer(pool: &mut [u16], lent: &mut [u16], line: &[u8]) -> ArrayVec<u8, L
             rank,
             kind,
             bounds,
-        } => print_outcome(grant(pool, number, rank, kind, bounds)),
-        Slip::Revoke(number) => print_outcome(revoke(pool, number)),
+        } => print_outcome(grant(pool, number, rank, kind, bounds), out),
+        Slip::Revoke(number) => print_outcome(revoke(pool, number), out),
         Slip::List(bounds) => {
             let listed = list(pool, bounds, Choice::Touching, lent);
-            print_listed(listed, lent)
+            print_listed(listed, lent, out)
         }
         Slip::Decide {
             staff,
             door,
             quarter,
-        } => print_decision(decide(pool, staff, door, quarter)),
-        Slip::Count => print_counted(count(pool)),
+        } => print_decision(decide(pool, staff, door, quarter), out),
+        Slip::Count => print_counted(count(pool), out),
     }
 }

@@ -1,4 +1,5 @@
-// Prints an answer as a line (document 01, "Marked cases"; specs/Text), its newline with it.
+// Prints an answer as a line (document 01, "Marked cases"; specs/Text), its newline with it. The line is lent, and what it held is gone: so
+// a caller can make room for it once.
 ghost use Rattle.std.specs.Prelude.{◌≡◌, ◌∷◌, ◌++◌, ◌+◌, ◌*◌, ◌≤◌, length, take, Ok};
 ghost use Rattle.arrayvec.specs.ArrayVec.{array_vec_len};
 ghost use Rattle.model.specs.Limits.{max_grants};
@@ -13,6 +14,9 @@ use text::put::{put_byte, put_number, put_numbered, put_text};
 
 // Room for the longest line: `list `, a count of up to twenty digits, 2,048 times a blank and five digits, the newline.
 pub const LINE_BYTES: usize = 12314;
+
+// A printed line.
+pub type Line = ArrayVec<u8, LINE_BYTES>;
 
 // Puts a number after a blank.
 fn put_item<const N: usize>(line: &mut ArrayVec<u8, N>, n: u16)
@@ -44,98 +48,94 @@ fn shown(written: usize, numbers: &[u16]) -> usize
 }
 
 // A line of a word.
-fn print_word(word: &[u8]) -> ArrayVec<u8, LINE_BYTES>
+fn print_word(word: &[u8], out: &mut Line)
     requires { length word.now ≤ 8 }
-    ensures { result.items ≡ line word.now }
+    ensures { out.new.items ≡ line word.now }
 {
-    let mut line = ArrayVec::new();
-    put_text(&mut line, word);
-    put_byte(&mut line, b'\n');
-    line
+    out.clear();
+    put_text(out, word);
+    put_byte(out, b'\n');
 }
 
 // A line of a word and a number.
-fn print_numbered(word: &[u8], n: usize) -> ArrayVec<u8, LINE_BYTES>
+fn print_numbered(word: &[u8], n: usize, out: &mut Line)
     requires { length word.now ≤ 8 }
-    ensures { result.items ≡ line (word.now ++ numeral n) }
+    ensures { out.new.items ≡ line (word.now ++ numeral n) }
 {
-    let mut line = ArrayVec::new();
-    put_numbered(&mut line, word, n);
-    put_byte(&mut line, b'\n');
-    line
+    out.clear();
+    put_numbered(out, word, n);
+    put_byte(out, b'\n');
 }
 
-fn print_refusal(f: Fault) -> ArrayVec<u8, LINE_BYTES>
-    ensures { result.items ≡ refusal_text f }
+fn print_refusal(f: Fault, out: &mut Line)
+    ensures { out.new.items ≡ refusal_text f }
 {
-    print_numbered(b"refused ", fault_number(f))
+    print_numbered(b"refused ", fault_number(f), out)
 }
 
-fn print_list(written: usize, numbers: &[u16]) -> ArrayVec<u8, LINE_BYTES>
-    ensures { result.items ≡ listed_text (Ok written) (take max_grants numbers.now) }
+fn print_list(written: usize, numbers: &[u16], out: &mut Line)
+    ensures { out.new.items ≡ listed_text (Ok written) (take max_grants numbers.now) }
 {
-    let mut line = ArrayVec::new();
-    put_numbered(&mut line, b"list ", written);
-    put_items(&mut line, &numbers[..shown(written, numbers)]);
-    put_byte(&mut line, b'\n');
-    line
+    out.clear();
+    put_numbered(out, b"list ", written);
+    put_items(out, &numbers[..shown(written, numbers)]);
+    put_byte(out, b'\n');
 }
 
-fn print_cells(cells: Cells) -> ArrayVec<u8, LINE_BYTES>
-    ensures { result.items ≡ counted_text (Ok cells) }
+fn print_cells(cells: Cells, out: &mut Line)
+    ensures { out.new.items ≡ counted_text (Ok cells) }
 {
-    let mut line = ArrayVec::new();
-    put_numbered(&mut line, b"count ", cells.live);
-    put_numbered(&mut line, b" ", cells.free);
-    put_byte(&mut line, b'\n');
-    line
+    out.clear();
+    put_numbered(out, b"count ", cells.live);
+    put_numbered(out, b" ", cells.free);
+    put_byte(out, b'\n');
 }
 
 // What grant or revoke answered.
-pub fn print_outcome(answer: Result<(), Fault>) -> ArrayVec<u8, LINE_BYTES>
-    ensures { result.items ≡ outcome_text answer }
+pub fn print_outcome(answer: Result<(), Fault>, out: &mut Line)
+    ensures { out.new.items ≡ outcome_text answer }
 {
     match answer {
-        Ok(()) => print_word(b"ok"),
-        Err(f) => print_refusal(f),
+        Ok(()) => print_word(b"ok", out),
+        Err(f) => print_refusal(f, out),
     }
 }
 
 // What list answered, with the list that was lent to it, of which the first 2,048 numbers count.
-pub fn print_listed(answer: Result<usize, Fault>, numbers: &[u16]) -> ArrayVec<u8, LINE_BYTES>
-    ensures { result.items ≡ listed_text answer (take max_grants numbers.now) }
+pub fn print_listed(answer: Result<usize, Fault>, numbers: &[u16], out: &mut Line)
+    ensures { out.new.items ≡ listed_text answer (take max_grants numbers.now) }
 {
     match answer {
-        Ok(n) => print_list(n, numbers),
-        Err(f) => print_refusal(f),
+        Ok(n) => print_list(n, numbers, out),
+        Err(f) => print_refusal(f, out),
     }
 }
 
 // What decide answered.
-pub fn print_decision(answer: Result<Decision, Fault>) -> ArrayVec<u8, LINE_BYTES>
-    ensures { result.items ≡ decision_text answer }
+pub fn print_decision(answer: Result<Decision, Fault>, out: &mut Line)
+    ensures { out.new.items ≡ decision_text answer }
 {
     match answer {
-        Ok(Decision::Opens(g)) => print_numbered(b"opens ", usize::from(g.number)),
-        Ok(Decision::Barred(g)) => print_numbered(b"barred ", usize::from(g.number)),
-        Ok(Decision::None) => print_word(b"none"),
-        Err(f) => print_refusal(f),
+        Ok(Decision::Opens(g)) => print_numbered(b"opens ", usize::from(g.number), out),
+        Ok(Decision::Barred(g)) => print_numbered(b"barred ", usize::from(g.number), out),
+        Ok(Decision::None) => print_word(b"none", out),
+        Err(f) => print_refusal(f, out),
     }
 }
 
 // What count answered.
-pub fn print_counted(answer: Result<Cells, Fault>) -> ArrayVec<u8, LINE_BYTES>
-    ensures { result.items ≡ counted_text answer }
+pub fn print_counted(answer: Result<Cells, Fault>, out: &mut Line)
+    ensures { out.new.items ≡ counted_text answer }
 {
     match answer {
-        Ok(cells) => print_cells(cells),
-        Err(f) => print_refusal(f),
+        Ok(cells) => print_cells(cells, out),
+        Err(f) => print_refusal(f, out),
     }
 }
 
 // What is printed for a line that is no slip.
-pub fn print_bad() -> ArrayVec<u8, LINE_BYTES>
-    ensures { result.items ≡ bad_text }
+pub fn print_bad(out: &mut Line)
+    ensures { out.new.items ≡ bad_text }
 {
-    print_word(b"bad")
+    print_word(b"bad", out)
 }

@@ -1,6 +1,7 @@
 // The slip program (document 01, "Marked cases"): an index of 2,048 cells, a slip a line on standard input, an answer a line on standard
 // output. What a line does is `crate::answer`; how bytes become lines is `console::lines::next_line`. Where an answer can't be written, no
 // further slip is applied.
+use crate::printing::Line;
 use crate::{LONGEST, answer};
 use console::lines::{Longer, Unread, fresh, next_line};
 use console::output::{Unwritten, answers, warn, warn_reason};
@@ -17,8 +18,10 @@ fn answer_line(
     pool: &mut [u16],
     lent: &mut [u16],
     line: &[u8],
+    out: &mut Line,
 ) -> Result<(), Unwritten> {
-    answers(rt).put(answer(pool, lent, line).as_slice())
+    answer(pool, lent, line, out);
+    answers(rt).put(out.as_slice())
 }
 
 // How a program ends whose standard input gives no line; says so where it could not be read.
@@ -42,6 +45,7 @@ fn answer_lines(
     input: &mut [u8],
     line: &mut [u8],
 ) -> Ending {
+    let mut out = Line::new();
     let mut cursor = fresh();
     for _ in 0..u64::MAX {
         let pulled = next_line(&mut rt.stdin(), input, cursor, line, Longer::Dropped);
@@ -50,7 +54,7 @@ fn answer_lines(
             Ok(None) => break,
             Err(unread) => return warn_input(rt, unread),
         };
-        if answer_line(rt, pool, lent, &line[..n]).is_err() {
+        if answer_line(rt, pool, lent, &line[..n], &mut out).is_err() {
             return Ending::Failed;
         }
         cursor = pulled.cursor;

@@ -3,4 +3,5 @@ pub mod FieldLaws
 pub mod FieldSteps
 pub mod NumberSteps
 pub mod NumeralLaws
+mod PlaceLaws
 pub mod ColumnLaws

@@ -1,6 +1,7 @@
 -- The digits of a number.
 --   numeral-digit, numeral_more   a number below ten is one digit; any other is the digits of its tenth part and its last digit
 --   numeral_induct                induction by that
+--   length-numeral-..             how many there are then
 --   numeral-few                   a number below 10 ^ k has at most k digits
 --   value-numeral                 the value of a number's digits is the number
 --   number-numeral                they are one digit or more, and nothing else
@@ -49,10 +50,10 @@ pub numeral_more : (n : ℕ) → 10 ≤ n → numeral n ≡ numeral (n / 10) ++ 
 unfolding numeral
 numeral_more n h = digits_more n n h ∙ rw (digits_enough n (suc (n / 10)) (n / 10) (omega arith) (omega arith))
 
-length-numeral-digit : (n : ℕ) → n < 10 → length (numeral n) ≡ 1
+pub length-numeral-digit : (n : ℕ) → n < 10 → length (numeral n) ≡ 1
 length-numeral-digit n h = ap length (numeral-digit n h)
 
-length-numeral_more : (n : ℕ) → 10 ≤ n → length (numeral n) ≡ length (numeral (n / 10)) + 1
+pub length-numeral_more : (n : ℕ) → 10 ≤ n → length (numeral n) ≡ length (numeral (n / 10)) + 1
 length-numeral_more n h = ap length (numeral_more n h) ∙ length-append (numeral (n / 10)) (digit (n % 10) ∷ [])
 
 -- what holds of one digit, and of a number where it holds of its tenth part, holds of every number

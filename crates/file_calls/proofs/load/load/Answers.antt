@@ -19,20 +19,18 @@ returns-in_err-cells c =
     rw (p.1, p.2, refusal_is c.length_capacity.result BadPool c.ok_or.ensures.value c.in_err-cells.was)
     (load_bad c.args.pool.now c.args.file.now c.length_capacity.ensures (none_from_err c.ok_or.ensures.ok_part c.in_err-cells.was))
 
-pub returns-in_err-judge : goal.returns-in_err-judge
-returns-in_err-judge c =
-    let p = err_from_is_err_and c.from_residual-in_err-judge.result c.from_residual-in_err-judge.ensures.1 in
-    rw (p.1, p.2)
-    (load_file c.args.pool.now _ c.length_capacity.ensures (some_from_ok c.ok_or.ensures.ok_part c.in_ok-cells.was) c.judge.ensures c.in_err-judge.was)
+pub returns-in-Err : goal.returns-in-Err
+returns-in-Err c =
+    load_file c.args.pool.now _ c.length_capacity.ensures (some_from_ok c.ok_or.ensures.ok_part c.in_ok-cells.was) c.judge.ensures c.in-Err.is
 
 pub total_in-total-requires : goal.total_in-total-requires
 total_in-total-requires c =
     let cells = some_from_ok c.ok_or.ensures.ok_part c.in_ok-cells.was in
-    (accepted-whole _ (load-accepted c.args.pool.now _ c.length_capacity.ensures cells c.judge.ensures c.in_ok-judge.was)).some
+    (accepted-whole _ (load-accepted c.args.pool.now _ c.length_capacity.ensures cells c.judge.ensures c.in_default.is)).some
 
 pub returns-then-cells-total : goal.returns-then-cells-total
 returns-then-cells-total c =
-    load_full c.args.pool.now _ c.length_capacity.ensures (some_from_ok c.ok_or.ensures.ok_part c.in_ok-cells.was) c.judge.ensures c.in_ok-judge.was
+    load_full c.args.pool.now _ c.length_capacity.ensures (some_from_ok c.ok_or.ensures.ok_part c.in_ok-cells.was) c.judge.ensures c.in_default.is
     c.total_in-total.ensures.0 c.if-cells-total.true
 
 pub make_fresh-requires : goal.make_fresh-requires
@@ -44,13 +42,13 @@ add_all-requires c =
     let t = length_taken c.args.pool.now c.length_capacity.ensures cells in
     record {
       sized = record { some = t.sized.some; few = t.sized.few; long = c.make_fresh.auto.pool ∙ t.sized.long };
-      accepted = load-accepted c.args.pool.now _ c.length_capacity.ensures cells c.judge.ensures c.in_ok-judge.was;
+      accepted = load-accepted c.args.pool.now _ c.length_capacity.ensures cells c.judge.ensures c.in_default.is;
       counted = c.total_in-total.ensures.0;
     }
 
 pub returns : goal.returns
 returns c =
-    load_done c.args.pool.now _ c.length_capacity.ensures (some_from_ok c.ok_or.ensures.ok_part c.in_ok-cells.was) c.judge.ensures c.in_ok-judge.was
+    load_done c.args.pool.now _ c.length_capacity.ensures (some_from_ok c.ok_or.ensures.ok_part c.in_ok-cells.was) c.judge.ensures c.in_default.is
     c.total_in-total.ensures.0 c.if-cells-total.false
     (λ i. omega (arith, c.type_inv.file i))
     (c.add_all.ensures ∙ ap (λ (w : List ℕ). added_all w (grants_in c.args.file.now)) c.make_fresh.ensures)

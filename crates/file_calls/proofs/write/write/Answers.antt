@@ -32,63 +32,61 @@ find_hits-requires c =
     let range = c.range_of_doors-range.ensures in
     record { sized = t.sized; one_sided = subst OneSided (sym range) (doors_one_sided _); room = refl }
 
-pub returns-in_err-found : goal.returns-in_err-found
-returns-in_err-found c =
-    let p = err_from_is_err_and c.from_residual-in_err-found.result c.from_residual-in_err-found.ensures.1 in
-    rw (p.1, p.2)
-    (write-broken c.args.pool.now _ c.args.bytes.now c.capacity.ensures (some_from_ok c.ok_or.ensures.ok_part c.in_ok-cells.was)
-    c.if-door_to-door_from.false c.range_of_doors-range.ensures _ c.find_hits.ensures c.in_err-found.was)
+pub returns-in_default : goal.returns-in_default
+returns-in_default c =
+    write-broken c.args.pool.now _ c.args.bytes.now c.capacity.ensures (some_from_ok c.ok_or.ensures.ok_part c.in_ok-cells.was)
+    c.if-door_to-door_from.false c.range_of_doors-range.ensures _ c.find_hits.ensures c.in_default.is
 
 pub blocks_for-needed-requires : goal.blocks_for-needed-requires
 blocks_for-needed-requires c =
-    let at = found-cells _ _ _ _ c.find_hits.ensures c.in_ok-found.was in
-    let long = found_long _ _ _ _ c.find_hits.ensures c.in_ok-found.was in
+    let at = found-cells _ _ _ _ c.find_hits.ensures c.in-Ok.is in
+    let long = found_long _ _ _ _ c.find_hits.ensures c.in-Ok.is in
     omega (arith, at.few, long)
 
 pub overflow_mul-needed : goal.overflow_mul-needed
 overflow_mul-needed c =
-    let at = found-cells _ _ _ _ c.find_hits.ensures c.in_ok-found.was in
-    let long = found_long _ _ _ _ c.find_hits.ensures c.in_ok-found.was in
+    let at = found-cells _ _ _ _ c.find_hits.ensures c.in-Ok.is in
+    let long = found_long _ _ _ _ c.find_hits.ensures c.in-Ok.is in
     omega (arith, c.blocks_for-needed.ensures, at.few, long)
 
 pub returns-then-bytes-needed : goal.returns-then-bytes-needed
 returns-then-bytes-needed c =
     write_short c.args.pool.now _ c.args.bytes.now c.capacity.ensures (some_from_ok c.ok_or.ensures.ok_part c.in_ok-cells.was)
-    c.if-door_to-door_from.false c.range_of_doors-range.ensures _ c.find_hits.ensures c.in_ok-found.was
+    c.if-door_to-door_from.false c.range_of_doors-range.ensures _ c.find_hits.ensures c.in-Ok.is
     (ap (λ (k : ℕ). 512 * k) c.blocks_for-needed.ensures) c.if-bytes-needed.true
 
 pub slice_bounds-sorted-end : goal.slice_bounds-sorted-end
 slice_bounds-sorted-end c =
-    let at = found-cells _ _ _ _ c.find_hits.ensures c.in_ok-found.was in
-    let long = found_long _ _ _ _ c.find_hits.ensures c.in_ok-found.was in
+    let at = found-cells _ _ _ _ c.find_hits.ensures c.in-Ok.is in
+    let long = found_long _ _ _ _ c.find_hits.ensures c.in-Ok.is in
     omega (arith, at.few, long)
 
 pub slice_bounds-sorted-end-2 : goal.slice_bounds-sorted-end-2
 slice_bounds-sorted-end-2 c =
-    let at = found-cells _ _ _ _ c.find_hits.ensures c.in_ok-found.was in
-    let long = found_long _ _ _ _ c.find_hits.ensures c.in_ok-found.was in
+    let at = found-cells _ _ _ _ c.find_hits.ensures c.in-Ok.is in
+    let long = found_long _ _ _ _ c.find_hits.ensures c.in-Ok.is in
     sym (length-take-le _ _ (omega (arith, at.few, long)))
 
 pub slice_bounds-hits-end : goal.slice_bounds-hits-end
-slice_bounds-hits-end c = found-room _ _ _ _ c.find_hits.ensures c.in_ok-found.was
+slice_bounds-hits-end c = found-room _ _ _ _ c.find_hits.ensures c.in-Ok.is
 
 pub slice_bounds-sort_cells-end : goal.slice_bounds-sort_cells-end
-slice_bounds-sort_cells-end c = found_long _ _ _ _ c.find_hits.ensures c.in_ok-found.was
+slice_bounds-sort_cells-end c = found_long _ _ _ _ c.find_hits.ensures c.in-Ok.is
 
 pub sort_cells-requires : goal.sort_cells-requires
 sort_cells-requires c =
-    let at = found-cells _ _ _ _ c.find_hits.ensures c.in_ok-found.was in
-    let long = found_long _ _ _ _ c.find_hits.ensures c.in_ok-found.was in
+    let at = found-cells _ _ _ _ c.find_hits.ensures c.in-Ok.is in
+    let long = found_long _ _ _ _ c.find_hits.ensures c.in-Ok.is in
     (at, length-take-le _ _ (omega (arith, at.few, long)) ∙ long)
 
 pub write_file-requires : goal.write_file-requires
 write_file-requires c =
-    let long = found_long _ _ _ _ c.find_hits.ensures c.in_ok-found.was in
+    let long = found_long _ _ _ _ c.find_hits.ensures c.in-Ok.is in
     let size = ap length c.sort_cells.ensures.0 ∙ length-sort_by _ _ in
     (c.sort_cells.ensures.1, omega (arith, size, long, c.blocks_for-needed.ensures, c.if-bytes-needed.false))
 
 pub returns : goal.returns
 returns c =
     write_done c.args.pool.now _ c.args.bytes.now c.capacity.ensures (some_from_ok c.ok_or.ensures.ok_part c.in_ok-cells.was)
-    c.if-door_to-door_from.false c.range_of_doors-range.ensures _ c.find_hits.ensures c.in_ok-found.was
+    c.if-door_to-door_from.false c.range_of_doors-range.ensures _ c.find_hits.ensures c.in-Ok.is
     (ap (λ (k : ℕ). 512 * k) c.blocks_for-needed.ensures) c.if-bytes-needed.false c.sort_cells.ensures.0 c.write_file.ensures
