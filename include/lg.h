@@ -29,7 +29,7 @@
  *
  * Stack: no call allocates. A call needs at most LG_STACK_BYTES beside what its caller has on the stack, on any pool, file and record;
  * measured on x86-64 with the archive that `tools/build c_api` makes (tests/stack): lg_list and lg_list_holding 27,264 bytes,
- * lg_compare_openings 26,824, lg_write and lg_match 25,264, lg_grant, lg_revoke, lg_decide and lg_count 19,120, the others 1,416.
+ * lg_compare_openings 26,824, lg_write and lg_match 25,264, lg_grant, lg_revoke, lg_decide and lg_count 19,120, the others 1,432.
  *
  * Every call returns one word:
  *
