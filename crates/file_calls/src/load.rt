@@ -29,6 +29,7 @@ pub fn load(pool: &mut [u16], file: &[u8]) -> Result<(), Fault>
     ensures { Leaves (outcome_answer result) pool.new (load_call pool.old file.now) }
 {
     let cells = length_capacity(pool).ok_or(Fault::BadPool)?;
+    // Not by `?`: a must-fail edit changes what is returned here, and nothing else.
     if let Err(fault) = judge(file) {
         return Err(fault);
     }

@@ -27,6 +27,7 @@ pub fn write(pool: &[u16], door_from: u16, door_to: u16, bytes: &mut [u8]) -> Re
         to: door_to,
     });
     let mut hits = [0u16; MAX_CAPACITY];
+    // Not by `?`: a must-fail edit changes what is returned here, and nothing else.
     let Ok(found) = find_hits(pool, cells, &range, Predicate::InRange, &mut hits) else {
         return Err(Fault::BrokenLinks);
     };

@@ -39,7 +39,7 @@ last_more n = by_size (dec_lt n 10)
     by_size (no s) = rw (le-ltb n 10 (omega arith), numeral_more n (omega arith))
 
 module _ (n : ℕ) (small : n < 100000) where
-  pub numeral-places : numeral n ≡ (((place_digit n 10000 ++ place_digit n 1000) ++ place_digit n 100) ++ place_digit n 10) ++ digit (n % 10) ∷ []
+  numeral-places : numeral n ≡ (((place_digit n 10000 ++ place_digit n 1000) ++ place_digit n 100) ++ place_digit n 10) ++ digit (n % 10) ∷ []
   numeral-places =
       let none : above n 100000 ≡ [] = rw (lt-ltb n 100000 small) in
       let p = above_more n 100000 10000 refl (omega arith) (omega arith) (λ h. omega arith) (λ h. omega arith) in
